@@ -1,0 +1,4 @@
+pub mod Refusal
+pub mod Ranges
+pub mod Sizes
+pub mod Published

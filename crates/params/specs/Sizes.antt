@@ -1,0 +1,60 @@
+-- The length of every slice that a routine is lent (01, tlwe, trlwe and key; READINGS 16).
+use Prim.Native.Nat.{ℕ, _+_, _*_, _-_, _^_}
+use Rattle.params.specs.declared.Params.{Params}
+use Rattle.params.specs.declared.Sizes.{Sizes}
+use Rattle.params.specs.Refusal.{ifDone}
+use Rattle.params.specs.Ranges.{paramsNumber}
+
+-- N = 2^NBIT, the coefficients of a polynomial.
+abbrev pub size : Params → ℕ
+size p = 2 ^ p .nbit
+
+-- BASE = 2^BASEBIT, the values of a field of key switching.
+abbrev pub base : Params → ℕ
+base p = 2 ^ p .basebit
+
+-- The rows of the switching key: row (i, j, k) for i below N, j below T, k below BASE.
+abbrev pub switchingRows : Params → ℕ
+switchingRows p = size p * p .t * base p
+
+-- The rows of the switching key that draw masks and noise: those with k from 1.
+abbrev pub drawingRows : Params → ℕ
+drawingRows p = size p * p .t * (base p - 1)
+
+-- The words of one bit's part of the bootstrapping key: 2L rows of 2N words.
+abbrev pub bitWords : Params → ℕ
+bitWords p = (p .l + p .l) * (size p + size p)
+
+-- Every length, for parameters in range.
+abbrev pub sizesIn : Params → Sizes
+sizesIn p = record {
+  number = 0;
+  n = p .n;
+  size = size p;
+  level0 = p .n + 1;
+  level1 = size p + 1;
+  ksk = switchingRows p * (p .n + 1);
+  kskmasks = drawingRows p * p .n;
+  ksknoise = drawingRows p;
+  bit = bitWords p;
+  bsk = p .n * bitWords p;
+  bitmasks = (p .l + p .l) * size p;
+  bskmasks = p .n * ((p .l + p .l) * size p);
+}
+
+-- Every length, and with parameters out of range the refusal and zeros.
+unfoldable pub sizesOf : Params → Sizes
+sizesOf p = ifDone (paramsNumber p) (sizesIn p) (record {
+  number = 1;
+  n = 0;
+  size = 0;
+  level0 = 0;
+  level1 = 0;
+  ksk = 0;
+  kskmasks = 0;
+  ksknoise = 0;
+  bit = 0;
+  bsk = 0;
+  bitmasks = 0;
+  bskmasks = 0;
+})

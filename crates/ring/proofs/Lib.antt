@@ -1,0 +1,17 @@
+pub mod Tab
+pub mod SumLaws
+pub mod Loop
+pub mod Words
+pub mod Ring
+pub mod Solve
+pub mod Sum
+pub mod Anti
+pub mod Poly
+pub mod Word
+pub mod Value
+pub mod Phase
+pub mod Laws
+pub mod Turns
+pub mod Extract
+pub mod Whole
+pub mod Centre
