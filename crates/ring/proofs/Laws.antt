@@ -17,7 +17,7 @@ use Rattle.ring.specs.Sums.{tab}
 use Rattle.ring.specs.Poly.{plus, minus, times, scale, total}
 use Rattle.ring.specs.Turn.{source, negating, rotated, complemented}
 use Rattle.ring.specs.Phase.{phase}
-use Rattle.ring.proofs.Value.{Reduced, below, Proper, proper, proper-reduced, by-value, tab-reduced, 𝓦, 𝓟, X, value, value-plus, value-minus, value-times, value-negating, value-rotated, value-scale, value-total, value-one, const, const-one, const-zero, const-mul, by-test}
+use Rattle.ring.proofs.Value.{Reduced, below, Proper, proper, proper-reduced, by-value, tab-reduced, 𝓦, P, 𝓟, X, X-add, value, value-plus, value-minus, value-times, value-negating, value-rotated, value-scale, value-total, value-one, const, const-one, const-zero, const-mul, by-test}
 use Rattle.ring.proofs.Tab.{length-tab}
 
 -- ---- every operation gives N words, and may be replaced by its value
@@ -63,7 +63,7 @@ module _ (N : ℕ) (h : 0 < N) where
 ruleset propers = (plus-proper, minus-proper, times-proper, scale-proper, phase-proper, complemented-proper, rotated-proper, negating-proper)
 
 module _ (N : ℕ) (h : 0 < N) where
-  open CommRing (𝓟 N h) using (𝟘, 𝟙, _⊕_, _⊗_, ⊖_, add-comm, mul-comm, mul-one)
+  open CommRing (𝓟 N h) using (𝟘, 𝟙, _⊕_, _⊗_, ⊖_, add-comm, mul-comm, mul-assoc, mul-one)
 
   infixl 60 _⊕_
   infixl 70 _⊗_
@@ -84,6 +84,30 @@ module _ (N : ℕ) (h : 0 < N) where
   pub times-negating : (k : ℕ) (a b : List ℕ) → k ≤ N + N → times N (negating N k a) b ≡ negating N k (times N a b)
   times-negating k a b lk = by-value N h (search propers) (negating-proper N h k _ (proper-reduced N h (times-proper N h a b)))
       (simp (value-times N h, value-negating N h, ring, 𝓟 N h))
+
+  pub negating-times : (k : ℕ) (a b : List ℕ) → k ≤ N + N → times N a (negating N k b) ≡ negating N k (times N a b)
+  negating-times k a b lk = by-value N h (search propers) (negating-proper N h k _ (proper-reduced N h (times-proper N h a b)))
+      (simp (value-times N h, value-negating N h, ring, 𝓟 N h))
+
+  -- turns with true negation compose, amounts added modulo 2N
+  pub negating-negating : (j k : ℕ) (a : List ℕ) → Reduced a → j ≤ N + N → k ≤ N + N → negating N j (negating N k a) ≡ negating N ((j + k) % (N + N)) a
+  negating-negating j k a ra lj lk =
+      let l : (j + k) % (N + N) < N + N = mod-lt (j + k) (let q : 0 < N + N = omega arith in q) in
+      by-value N h (negating-proper N h j _ (proper-reduced N h (negating-proper N h k a ra))) (negating-proper N h _ a ra)
+      (value-negating N h j (negating N k a) lj ∙ ap (λ (u : P N h). u ⊗ X N h j) (value-negating N h k a lk)
+      ∙ mul-assoc (value N h a) (X N h k) (X N h j) ∙ ap (λ (u : P N h). value N h a ⊗ u) (mul-comm (X N h k) (X N h j) ∙ X-add N h j k)
+      ∙ sym (value-negating N h ((j + k) % (N + N)) a (omega arith)))
+
+  pub negating-plus : (k : ℕ) (a b : List ℕ) → k ≤ N + N → negating N k (plus N a b) ≡ plus N (negating N k a) (negating N k b)
+  negating-plus k a b lk = by-value N h (negating-proper N h k _ (proper-reduced N h (plus-proper N h a b))) (search propers)
+      (simp (value-plus N h, value-negating N h, ring, 𝓟 N h))
+
+  -- sums in any order
+  pub plus-assoc : (a b c : List ℕ) → plus N (plus N a b) c ≡ plus N a (plus N b c)
+  plus-assoc a b c = by-value N h (search propers) (search propers) (simp (value-plus N h, ring, 𝓟 N h))
+
+  pub plus-comm : (a b : List ℕ) → plus N a b ≡ plus N b a
+  plus-comm a b = by-value N h (search propers) (search propers) (simp (value-plus N h, ring, 𝓟 N h))
 
   pub times-minus : (a b c : List ℕ) → times N a (minus N b c) ≡ minus N (times N a b) (times N a c)
   times-minus a b c = by-value N h (search propers) (search propers) (simp (value-times N h, value-minus N h, ring, 𝓟 N h))

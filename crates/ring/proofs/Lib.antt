@@ -15,3 +15,4 @@ pub mod Turns
 pub mod Extract
 pub mod Whole
 pub mod Centre
+pub mod Examples

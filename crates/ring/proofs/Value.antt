@@ -5,7 +5,7 @@ use mathlib.Core.Path.{_≡_, refl, sym, ap, ap₂, _∙_, fun-ext}
 use mathlib.Core.Bool.{Bool, true, false, not, cond}
 use mathlib.Core.List.{List, [], _∷_}
 use Prim.Native.Nat.{ℕ, zero, suc, _+_, _*_, _-_, _%_, _/_, _≤_, _<_}
-use native.Mathlib.Nat.{mod-lt, mod-eq-of-lt, div-add-mod, le-of-lt, le-refl, lt-of-lt-of-le}
+use native.Mathlib.Nat.{add-comm as +-comm, mod-lt, mod-eq-of-lt, div-add-mod, le-of-lt, le-refl, lt-of-lt-of-le}
 use native.Mathlib.Omega.{arith}
 use lib.Dec.{T, leb, ltb, leb→le, nleb→lt, ltb→lt, nltb→le}
 use lib.ListN.{getD, length}
@@ -13,7 +13,7 @@ use lib.Seq.{ext-getD}
 use Rattle.ring.proofs.Tab.{at-tab, tab-below}
 use Rattle.ring.proofs.Ring.{CommRing, neg-zero, one-mul, zero-mul}
 use Rattle.ring.proofs.Sum.{sum, sum-cong}
-use Rattle.ring.proofs.Anti.{Anti, turn, conv, turn-conv, anti-before, anti-wrap, anti-source}
+use Rattle.ring.proofs.Anti.{Anti, turn, conv, turn-conv, turn-turn, anti-before, anti-wrap, anti-source}
 use Rattle.ring.proofs.Poly.{Poly, Polys, poly, poly-eq, turned, scaled, scaled-is, delta, ext, ext-anti, ext-below, anti-eq}
 use Rattle.ring.proofs.Word.{Word, Words, word, word-eq, word-add, word-mul, word-mod, word-neg, word-comp, word-sum, word-val, word-fst, word-zero, word-one}
 use Rattle.ring.specs.Word.{Q, Q-pos, neg, comp, at}
@@ -121,6 +121,10 @@ module _ (N : ℕ) (h : 0 < N) where
   turned-is : (k : ℕ) (u : P) → turned 𝓦 N p e k u ≡ u ⊗ X k
   unfolding 𝓟 X
   turned-is k u = ap (turned 𝓦 N p e k) (sym (𝓟 .mul-one u)) ∙ poly-eq 𝓦 N p (turn-conv 𝓦 N p e k (u .0) (𝟙 .0))
+
+  pub X-add : (j k : ℕ) → X j ⊗ X k ≡ X ((j + k) % (N + N))
+  unfolding 𝓟 X
+  X-add j k = sym (turned-is k (X j)) ∙ poly-eq 𝓦 N p (turn-turn 𝓦 N p e (𝟙 .0) (𝟙 .1) k j ∙ ap (λ (n : ℕ). turn 𝓦 N p (n % (N + N)) (𝟙 .0)) (+-comm k j))
 
   -- one place of X^k · a
   value-source : (a : List ℕ) (i k : ℕ) → k ≤ N + N → turned 𝓦 N p e k (value a) .0 i ≡ value a .0 (source N k i)
