@@ -1,0 +1,149 @@
+-- The refusals taken apart: a number that is 0 gives the facts that its checks tested, and facts give the number 0.
+-- Assumes nothing.
+use mathlib.Core.Path.{_≡_, refl, sym, ap, _∙_}
+use mathlib.Core.Bool.{Bool, true, false, cond}
+use mathlib.Core.List.{List, [], _∷_, _++_}
+use Prim.Native.Nat.{ℕ, zero, suc, _+_, _≤_, _<_}
+use native.Mathlib.Decide.{ℕ-discrete}
+use native.Mathlib.Numerals.{add-one}
+use native.Mathlib.Omega.{arith}
+use borrow.Author.Tests.{eqb-true, eq-eqb, ne-eqb, le-leb, lt-leb}
+use lib.Bits.{bitOr, or-lt, or-add-and, and-le-l, and-le-r}
+use lib.Dec.{eqb, leb, leb→le, nleb→lt, lit<}
+use lib.ListN.{length, take}
+use lib.Seq.{take-suc, take-all}
+use Rattle.ring.specs.Word.{at}
+use Rattle.ring.proofs.Value.{by-test}
+use Rattle.params.specs.declared.Params.{Params}
+use Rattle.params.specs.Refusal.{check, ifDone}
+use Rattle.params.specs.Ranges.{paramsNumber, InRange}
+use Rattle.params.specs.Sizes.{size, sizesOf}
+use Rattle.params.proofs.Answers.{passed}
+use Rattle.params.proofs.Ranges.{in-range, size-to, size-two}
+use Rattle.tlwe.specs.declared.Level.{Level}
+use Rattle.tlwe.specs.declared.Level.the-variants.{Zero, One}
+use Rattle.tlwe.specs.Level.{dimension, words, dimensionOf}
+use Rattle.tlwe.specs.Linear.{linearNumber}
+use Rattle.tlwe.specs.Key.{binary, keyNumber}
+
+-- ---- the masks of a ciphertext
+
+module _ (p : Params) where
+  -- from the record of lengths
+  pub masks-zero : sizesOf p .n ≡ dimensionOf p Zero
+  unfolding sizesOf
+  masks-zero = go (ℕ-discrete (paramsNumber p) 0)
+    where
+      go : Dec (paramsNumber p ≡ 0) → sizesOf p .n ≡ dimensionOf p Zero
+      go (yes e) = rw (eq-eqb (paramsNumber p) 0 e)
+      go (no n) = rw (ne-eqb (paramsNumber p) 0 n)
+
+  pub masks-one : sizesOf p .size ≡ dimensionOf p One
+  unfolding sizesOf
+  masks-one = go (ℕ-discrete (paramsNumber p) 0)
+    where
+      go : Dec (paramsNumber p ≡ 0) → sizesOf p .size ≡ dimensionOf p One
+      go (yes e) = rw (eq-eqb (paramsNumber p) 0 e)
+      go (no n) = rw (ne-eqb (paramsNumber p) 0 n)
+
+-- parameters in range have 1 to 1,100 masks
+pub in-bounds : (p : Params) (level : Level) → paramsNumber p ≡ 0 → (1 ≤ dimension p level) × (dimension p level ≤ 1100)
+in-bounds p Zero e = let r = in-range p e in (r .n-from, r .n-to)
+in-bounds p One e = let r = in-range p e in (omega (arith, size-two p r), omega (arith, size-to p r))
+
+-- what the number of masks tells of the parameters
+pub record Masks (p : Params) (level : Level) : Type 0 where
+  pub good : paramsNumber p ≡ 0
+  pub masks : dimensionOf p level ≡ dimension p level
+  pub most : dimension p level ≤ 1100
+
+module _ (p : Params) (level : Level) where
+  pub in-place : paramsNumber p ≡ 0 → dimensionOf p level ≡ dimension p level
+  in-place e = rw (eq-eqb (paramsNumber p) 0 e)
+
+  -- no masks: the parameters are refused
+  pub none : dimensionOf p level ≡ 0 → eqb (paramsNumber p) 0 ≡ false
+  none z = ne-eqb (paramsNumber p) 0 (λ e. let b = in-bounds p level e in let q : ⊥ = omega (arith, in-place e) in q)
+
+  -- some masks: they are not
+  pub some : (dimensionOf p level ≡ 0 → ⊥) → Masks p level
+  some h = go (ℕ-discrete (paramsNumber p) 0)
+    where
+      go : Dec (paramsNumber p ≡ 0) → Masks p level
+      go (yes e) = record { good = e; masks = in-place e; most = in-bounds p level e .1 }
+      go (no n) = absurd (h (rw (ne-eqb (paramsNumber p) 0 n)))
+
+-- ---- operations on ciphertexts
+
+-- what holds where an operation is not refused
+pub record Matching (p : Params) (level : Level) (la lb lo : ℕ) : Type 0 where
+  pub good : paramsNumber p ≡ 0
+  pub first : la ≡ words p level
+  pub second : lb ≡ words p level
+  pub result : lo ≡ words p level
+
+pub linear-good : (p : Params) (level : Level) (la lb lo : ℕ) → linearNumber p level la lb lo ≡ 0 → Matching p level la lb lo
+unfolding linearNumber
+linear-good p level la lb lo e =
+    let s1 = passed _ 1 _ (lit< tt) e in
+    let s2 = passed _ 2 _ (lit< tt) (s1 .1) in
+    let s3 = passed _ 2 _ (lit< tt) (s2 .1) in
+    let s4 = passed _ 2 _ (lit< tt) (s3 .1) in
+    record { good = eqb-true _ _ (s1 .0); first = eqb-true _ _ (s2 .0); second = eqb-true _ _ (s3 .0); result = eqb-true _ _ (s4 .0) }
+
+-- for callers: parameters in range and matching lengths are not refused
+pub linear-done : (p : Params) (level : Level) (la lb lo : ℕ) → Matching p level la lb lo → linearNumber p level la lb lo ≡ 0
+unfolding linearNumber
+linear-done p level la lb lo g =
+    simp (eq-eqb (paramsNumber p) 0 (g .good), eq-eqb la (words p level) (g .first), eq-eqb lb (words p level) (g .second), eq-eqb lo (words p level) (g .result))
+
+-- ---- keys
+
+-- one word more
+binary-snoc : (l : List ℕ) (k : ℕ) → binary (l ++ (k ∷ [])) ≡ cond (leb k 1) (binary l) false
+unfolding binary
+binary-snoc [] k = refl
+binary-snoc (x ∷ l) k = rw (binary-snoc l k) (go (leb x 1) (leb k 1) (binary l))
+  where
+    go : (b c d : Bool) → cond b (cond c d false) false ≡ cond c (cond b d false) false
+    go true true d = refl
+    go true false d = refl
+    go false true d = refl
+    go false false d = refl
+
+-- words or-ed together: at most 1 where each of them is
+or-binary : (a b : ℕ) → leb (bitOr a b) 1 ≡ cond (leb b 1) (leb a 1) false
+or-binary a b = by-test (leb b 1) (λ (c : Bool). leb (bitOr a b) 1 ≡ cond c (leb a 1) false)
+    (λ t. by-test (leb a 1) (λ (c : Bool). leb (bitOr a b) 1 ≡ c)
+    (λ u.
+    let la : a ≤ 1 = leb→le a 1 u in
+    let lb : b ≤ 1 = leb→le b 1 t in
+    let h : bitOr a b < 2 = or-lt 1 a b (omega arith) (omega arith) in
+    le-leb (bitOr a b) 1 (omega arith))
+    (λ u. let la : 1 < a = nleb→lt a 1 u in lt-leb (bitOr a b) 1 (omega (arith, or-add-and a b, and-le-r a b))))
+    (λ t. let lb : 1 < b = nleb→lt b 1 t in lt-leb (bitOr a b) 1 (omega (arith, or-add-and a b, and-le-l a b)))
+
+pub key-none : (key : List ℕ) → leb 0 1 ≡ binary (take 0 key)
+unfolding binary
+key-none key = refl
+
+pub key-more : (key : List ℕ) (i seen : ℕ) → i < length key → leb seen 1 ≡ binary (take i key) → leb (bitOr seen (at key i)) 1 ≡ binary (take (i + 1) key)
+key-more key i seen h e =
+    or-binary seen (at key i) ∙ ap (λ (c : Bool). cond (leb (at key i) 1) c false) e
+    ∙ rw (add-one, take-suc key i 0 h) (sym (binary-snoc (take i key) (at key i)))
+
+-- the loop's end: what was seen gives the number
+pub key-done : (key : List ℕ) (i seen : ℕ) → length key ≤ i → leb seen 1 ≡ binary (take i key) → check (leb seen 1) 4 0 ≡ keyNumber key
+key-done key i seen h e = ap (λ (c : Bool). check c 4 0) (e ∙ ap binary (take-all i key h))
+
+-- a key that passes the check is binary
+pub key-good : (key : List ℕ) → keyNumber key ≡ 0 → binary key ≡ true
+key-good key e = passed (binary key) 4 0 (lit< tt) e .0
+
+-- and one that does not is not
+pub key-bad : (key : List ℕ) → (keyNumber key ≡ 0 → ⊥) → binary key ≡ false
+key-bad key h = go (binary key) h
+  where
+    go : (b : Bool) → (check b 4 0 ≡ 0 → ⊥) → b ≡ false
+    go true n = absurd (n refl)
+    go false n = refl

@@ -1,0 +1,61 @@
+-- `tlwe::keys::key_number` meets its contract. The loop's invariant: what was seen is at most 1 where the words passed are binary.
+-- Assumes nothing.
+use Prim.Native.Nat.{_≤_, _-_}
+use mathlib.Core.Path.{_≡_, _∙_}
+use native.Mathlib.Omega.{arith}
+use borrow.Author.Needs.{needs}
+use lib.Dec.{leb}
+use lib.ListN.{length, take}
+use Rattle.tlwe.specs.Key.{binary}
+use Rattle.tlwe.proofs.Checks.{key-none, key-more, key-done}
+use Rattle.tlwe.proofs.keys.key_number.Statement.{statement}
+use Rattle.tlwe.proofs.keys.key_number.Tie as tie
+
+abbrev Inv-loop : tie.InvT-loop
+Inv-loop key seen₀ i₀ seen i = (i ≤ length key) × (leb seen 1 ≡ binary (take i key))
+
+abbrev μ-loop : tie.MeasureT-loop
+μ-loop key seen₀ i₀ seen i = length key - i
+
+loop-holds : tie.Need-loop-holds Inv-loop μ-loop
+loop-holds c = (omega arith, key-none (c .before .args .key .now))
+
+mul-seen : tie.Need-mul-seen Inv-loop μ-loop
+mul-seen c = omega arith
+
+shared-slice-read-seen : tie.Need-shared-slice-read-seen Inv-loop μ-loop
+shared-slice-read-seen c = omega arith
+
+add-i : tie.Need-add-i Inv-loop μ-loop
+add-i c = omega arith
+
+loop-less : tie.Need-loop-less Inv-loop μ-loop
+loop-less c = omega arith
+
+loop-again : tie.Need-loop-again Inv-loop μ-loop
+loop-again c =
+    let b = c .before .before .loop in
+    (omega arith, key-more (c .before .before .before .before .args .key .now) (b .i) (b .seen) (omega arith) (b .inv .1))
+
+seen-number-requires : tie.Need-seen-number-requires Inv-loop μ-loop
+seen-number-requires c κs = search needs
+
+returns : tie.Need-returns Inv-loop μ-loop
+returns c =
+    let b = c .before .before .loop in
+    c .seen-number .ensures ∙ key-done (c .before .before .before .before .args .key .now) (b .i) (b .seen) (omega arith) (b .inv .1)
+
+pub key-number-spec : {M : Type 1} → statement M
+key-number-spec =
+    tie.close
+    (tie.spec
+    Inv-loop
+    μ-loop
+    loop-holds
+    mul-seen
+    shared-slice-read-seen
+    add-i
+    loop-less
+    loop-again
+    seen-number-requires
+    returns)

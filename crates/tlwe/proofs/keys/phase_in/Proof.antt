@@ -1,0 +1,33 @@
+-- `tlwe::keys::phase_in` meets its contract: b less the masks' sum.
+-- Assumes nothing.
+use mathlib.Core.Path.{_≡_, sym, ap, _∙_}
+use Prim.Native.Nat.{ℕ, _+_, _%_}
+use lib.ListN.{length}
+use Rattle.ring.specs.Word.{Q, at, neg}
+use Rattle.ring.specs.Phase.{samplePhase}
+use Rattle.ring.proofs.Words.{neg-mod}
+use borrow.Author.Needs.{needs}
+use Rattle.tlwe.proofs.keys.phase_in.Statement.{statement}
+use Rattle.tlwe.proofs.keys.phase_in.Tie as tie
+
+inner-requires : tie.Need-inner-requires
+inner-requires c κs = search needs
+
+mul-sub : tie.Need-mul-sub
+mul-sub c = search needs
+
+shared-slice-read-sub : tie.Need-shared-slice-read-sub
+shared-slice-read-sub c = search needs
+
+sub-requires : tie.Need-sub-requires
+sub-requires c κs = search needs
+
+returns : tie.Need-returns
+unfolding samplePhase
+returns c =
+    let a = c .before .before .before .before .before .args in
+    (c .sub .ensures ∙ ap (λ (x : ℕ). (at (a .c .now) (length (a .key .now)) + x) % Q) (ap neg (c .before .before .inner .ensures .0) ∙ neg-mod _), c .before .before .inner .ensures .1)
+
+pub phase-in-spec : {M : Type 1} → statement M
+phase-in-spec =
+    tie.close (tie.spec inner-requires mul-sub shared-slice-read-sub sub-requires returns)

@@ -1,0 +1,6 @@
+pub mod Level
+pub mod Linear
+pub mod Key
+pub mod Plain
+pub mod Encrypt
+pub mod Decrypt

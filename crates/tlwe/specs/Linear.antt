@@ -1,0 +1,29 @@
+-- Sums and multiples of ciphertexts: their refusals, and what ring's `plus`, `minus` and `scale` do not say yet.
+use mathlib.Core.List.{List}
+use Prim.Native.Nat.{ℕ, _%_}
+use lib.Dec.{eqb}
+use lib.ListN.{length}
+use Rattle.ring.specs.Word.{Q, at, neg}
+use Rattle.ring.specs.Sums.{tab}
+use Rattle.params.specs.declared.Params.{Params}
+use Rattle.params.specs.Refusal.{check, ifDone}
+use Rattle.params.specs.Ranges.{paramsNumber}
+use Rattle.tlwe.specs.declared.Level.{Level}
+use Rattle.tlwe.specs.Level.{words}
+
+-- Refusals 1 and 2 of an operation on ciphertexts of la, lb and lo words. (Negation has one operand: its length stands for both.)
+unfoldable pub linearNumber : Params → Level → ℕ → ℕ → ℕ → ℕ
+linearNumber p level la lb lo =
+    check (eqb (paramsNumber p) 0) 1
+    (check (eqb la (words p level)) 2
+    (check (eqb lb (words p level)) 2
+    (check (eqb lo (words p level)) 2
+    0)))
+
+-- What the result's slice, o before the call, holds after it: the content, and o itself where the call is refused.
+abbrev pub linearOut : Params → Level → List ℕ → List ℕ → List ℕ → List ℕ → List ℕ
+linearOut p level a b o content = ifDone (linearNumber p level (length a) (length b) (length o)) content o
+
+-- -a, word by word, with true negation: `Neg` of src/tlwe.rs.
+unfoldable pub negative : ℕ → List ℕ → List ℕ
+negative m a = tab m (λ i. neg (at a i) % Q)

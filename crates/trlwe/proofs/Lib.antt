@@ -1,0 +1,5 @@
+pub mod Checks
+pub mod Pairs
+pub mod Uses
+pub mod Determined
+pub mod Examples

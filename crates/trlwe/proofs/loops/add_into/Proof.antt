@@ -1,0 +1,86 @@
+-- `trlwe::loops::add_into` meets its contract: below i the slice holds the sums.
+-- Assumes nothing.
+use mathlib.Core.Path.{_≡_, refl, ap, _∙_}
+use mathlib.Core.List.{_++_}
+use Prim.Native.Nat.{ℕ, _+_, _-_, _%_, _≤_, _<_}
+use native.Mathlib.Omega.{arith}
+use borrow.Author.Needs.{needs}
+use denote.Ref.{now}
+use lib.ListN.{length, drop, length-set}
+use Rattle.ring.specs.Word.{Q, at}
+use Rattle.ring.specs.Sums.{tab}
+use Rattle.ring.specs.Poly.{plus}
+use Rattle.ring.proofs.Tab.{tab-none, tab-read, tab-more, tab-done}
+use Rattle.trlwe.proofs.loops.add_into.Statement.{statement}
+use Rattle.trlwe.proofs.loops.add_into.Tie as tie
+
+abbrev Inv-loop : tie.InvT-loop
+Inv-loop source out₀ i₀ out i = (i ≤ length out₀) × (length out ≡ length out₀) × (out ≡ tab i (λ j. (at out₀ j + at source j) % Q) ++ drop i out₀)
+
+abbrev μ-loop : tie.MeasureT-loop
+μ-loop source out₀ i₀ out i = length out₀ - i
+
+loop-holds : tie.Need-loop-holds Inv-loop μ-loop
+loop-holds c = (omega arith, refl, tab-none _ _)
+
+mul-add : tie.Need-mul-add Inv-loop μ-loop
+mul-add c = omega arith
+
+slice-read-add : tie.Need-slice-read-add Inv-loop μ-loop
+slice-read-add c = omega arith
+
+mul-add-2 : tie.Need-mul-add-2 Inv-loop μ-loop
+mul-add-2 c = omega arith
+
+shared-slice-read-add : tie.Need-shared-slice-read-add Inv-loop μ-loop
+shared-slice-read-add c = omega arith
+
+add-requires : tie.Need-add-requires Inv-loop μ-loop
+add-requires c κs = search needs
+
+mul-out : tie.Need-mul-out Inv-loop μ-loop
+mul-out c = omega arith
+
+slice-write-out : tie.Need-slice-write-out Inv-loop μ-loop
+slice-write-out c = omega arith
+
+add-i : tie.Need-add-i Inv-loop μ-loop
+add-i c = omega arith
+
+loop-less : tie.Need-loop-less Inv-loop μ-loop
+loop-less c = omega arith
+
+loop-again : tie.Need-loop-again Inv-loop μ-loop
+loop-again c =
+    let g = c .before .before .before .before .before .before .before .args in
+    let l = c .before .before .before .before .loop in
+    let h : l .i < length (now (g .out)) = omega arith in
+    let r = tab-read _ (now (g .out)) (l .i) h (l .inv .2) in
+    (omega arith, simp length-set (l .inv .1), tab-more _ (now (g .out)) (l .i) h (l .inv .2) (c .add .ensures ∙ ap (λ (y : ℕ). (y + at (now (g .source)) (l .i)) % Q) r))
+
+same-length : tie.Need-same-length Inv-loop μ-loop
+same-length c = omega arith
+
+returns : tie.Need-returns Inv-loop μ-loop
+unfolding plus
+returns c = let l = c .before .loop in tab-done _ (now (c .before .before .before .before .args .out)) (l .i) _ (l .inv .0) (omega arith) refl (l .inv .2)
+
+pub add-into-spec : {M : Type 1} → statement M
+add-into-spec =
+    tie.close
+    (tie.spec
+    Inv-loop
+    μ-loop
+    loop-holds
+    mul-add
+    slice-read-add
+    mul-add-2
+    shared-slice-read-add
+    add-requires
+    mul-out
+    slice-write-out
+    add-i
+    loop-less
+    loop-again
+    same-length
+    returns)

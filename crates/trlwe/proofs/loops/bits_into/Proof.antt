@@ -1,0 +1,76 @@
+-- `trlwe::loops::bits_into` meets its contract: below i the slice holds the words of the bits.
+-- Assumes nothing.
+use mathlib.Core.Path.{_≡_, refl}
+use mathlib.Core.List.{_++_}
+use Prim.Native.Nat.{_-_, _≤_, _<_}
+use native.Mathlib.Omega.{arith}
+use borrow.Author.Needs.{needs}
+use denote.Ref.{now}
+use lib.ListN.{length, drop, length-set}
+use Rattle.ring.specs.Word.{at}
+use Rattle.ring.specs.Sums.{tab}
+use Rattle.ring.proofs.Tab.{tab-none, tab-more, tab-done}
+use Rattle.tlwe.specs.Plain.{bitWord}
+use Rattle.trlwe.specs.Encrypt.{isTrue}
+use Rattle.trlwe.proofs.loops.bits_into.Statement.{statement}
+use Rattle.trlwe.proofs.loops.bits_into.Tie as tie
+
+abbrev Inv-loop : tie.InvT-loop
+Inv-loop plain out₀ i₀ out i = (i ≤ length out₀) × (length out ≡ length out₀) × (out ≡ tab i (λ j. bitWord (isTrue (at plain j))) ++ drop i out₀)
+
+abbrev μ-loop : tie.MeasureT-loop
+μ-loop plain out₀ i₀ out i = length out₀ - i
+
+loop-holds : tie.Need-loop-holds Inv-loop μ-loop
+loop-holds c = (omega arith, refl, tab-none _ _)
+
+shared-slice-read-bit-word : tie.Need-shared-slice-read-bit-word Inv-loop μ-loop
+shared-slice-read-bit-word c = omega arith
+
+bit-word-requires : tie.Need-bit-word-requires Inv-loop μ-loop
+bit-word-requires c κs = search needs
+
+mul-out : tie.Need-mul-out Inv-loop μ-loop
+mul-out c = omega arith
+
+slice-write-out : tie.Need-slice-write-out Inv-loop μ-loop
+slice-write-out c = omega arith
+
+add-i : tie.Need-add-i Inv-loop μ-loop
+add-i c = omega arith
+
+loop-less : tie.Need-loop-less Inv-loop μ-loop
+loop-less c = omega arith
+
+loop-again : tie.Need-loop-again Inv-loop μ-loop
+loop-again c =
+    let g = c .before .before .before .before .before .before .args in
+    let l = c .before .before .before .loop in
+    let h : l .i < length (now (g .out)) = omega arith in
+    (omega arith, simp length-set (l .inv .1), tab-more _ (now (g .out)) (l .i) h (l .inv .2) (c .bit-word .ensures))
+
+same-length : tie.Need-same-length Inv-loop μ-loop
+same-length c = omega arith
+
+returns : tie.Need-returns Inv-loop μ-loop
+returns c =
+    let g = c .before .before .before .before .args in
+    let l = c .before .loop in
+    tab-done _ (now (g .out)) (l .i) (length (now (g .plain))) (omega arith) (omega arith) (omega arith) (l .inv .2)
+
+pub bits-into-spec : {M : Type 1} → statement M
+bits-into-spec =
+    tie.close
+    (tie.spec
+    Inv-loop
+    μ-loop
+    loop-holds
+    shared-slice-read-bit-word
+    bit-word-requires
+    mul-out
+    slice-write-out
+    add-i
+    loop-less
+    loop-again
+    same-length
+    returns)

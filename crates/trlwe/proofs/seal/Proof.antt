@@ -1,0 +1,39 @@
+-- `trlwe::seal` meets its contract: the masks are copied, and the noise and the product are added to the plain words.
+-- Assumes nothing.
+use borrow.Author.Needs.{needs}
+use denote.Ref.{now}
+use Rattle.trlwe.proofs.Pairs.{sealed}
+use Rattle.trlwe.proofs.seal.Statement.{statement}
+use Rattle.trlwe.proofs.seal.Tie as tie
+
+copy-into-requires : tie.Need-copy-into-requires
+copy-into-requires c κs = search needs
+
+add-into-requires : tie.Need-add-into-requires
+add-into-requires c κs = search needs
+
+poly-mul-add-requires : tie.Need-poly-mul-add-requires
+poly-mul-add-requires c κs = search needs
+
+same-length : tie.Need-same-length
+same-length c = search needs
+
+same-length-2 : tie.Need-same-length-2
+same-length-2 c = search needs
+
+returns : tie.Need-returns
+returns c =
+    let g = c .before .before .before .before .before .before .before .before .before .before .before .before .before .before .before .before .before .args in
+    let w = c .before .before .before .before .before .before .before .before .before .before .before .before .before .before .before .before .before .pre in
+    (c .before .before .before .before .before .before .before .before .before .before .copy-into .ensures, sealed (g .p) (w .0) (now (g .masks)) (now (g .noise)) (now (g .key)) (now (g .b)) (w .1) (w .3) (w .5) (c .before .before .before .before .before .before .add-into .ensures) (c .before .before .poly-mul-add .ensures .1))
+
+pub seal-spec : {M : Type 1} → statement M
+seal-spec =
+    tie.close
+    (tie.spec
+    copy-into-requires
+    add-into-requires
+    poly-mul-add-requires
+    same-length
+    same-length-2
+    returns)

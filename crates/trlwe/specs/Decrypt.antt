@@ -1,0 +1,37 @@
+-- Decryption to N bits (01, trlwe): each coefficient of the phase b - a·z as a bit.
+use mathlib.Core.Bool.{Bool, cond}
+use mathlib.Core.List.{List}
+use Prim.Native.Nat.{ℕ}
+use lib.Dec.{eqb}
+use lib.ListN.{length}
+use Rattle.params.specs.declared.Params.{Params}
+use Rattle.params.specs.Refusal.{check, ifDone}
+use Rattle.params.specs.Ranges.{paramsNumber}
+use Rattle.params.specs.Sizes.{size}
+use Rattle.ring.specs.Word.{at}
+use Rattle.ring.specs.Sums.{tab}
+use Rattle.ring.specs.Phase.{phase}
+use Rattle.tlwe.specs.Key.{keyNumber}
+use Rattle.tlwe.specs.Decrypt.{bitOf}
+
+-- The refusals of a decryption of la and lb words into lo bytes: 1, then 2 unless each has N, then 4.
+unfoldable pub decryptNumber : Params → ℕ → ℕ → List ℕ → ℕ → ℕ
+decryptNumber p la lb key lo =
+    check (eqb (paramsNumber p) 0) 1
+    (check (eqb la (size p)) 2
+    (check (eqb lb (size p)) 2
+    (check (eqb (length key) (size p)) 2
+    (check (eqb lo (size p)) 2
+    (keyNumber key)))))
+
+-- A bit as it is handed back: a byte, 1 or 0.
+abbrev pub bitByte : Bool → ℕ
+bitByte bit = cond bit 1 0
+
+-- The bits of a pair under the key z.
+unfoldable pub decrypted : ℕ → List ℕ → List ℕ → List ℕ → List ℕ
+decrypted N z a b = tab N (λ i. bitByte (bitOf (at (phase N z a b) i)))
+
+-- What `decrypt_bool` leaves in out, which held o.
+abbrev pub decryptOut : Params → List ℕ → List ℕ → List ℕ → List ℕ → List ℕ
+decryptOut p a b z o = ifDone (decryptNumber p (length a) (length b) z (length o)) (decrypted (size p) z a b) o

@@ -1,0 +1,5 @@
+pub mod Exact
+pub mod Cut
+pub mod Laws
+pub mod Unique
+pub mod Determined
