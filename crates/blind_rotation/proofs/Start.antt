@@ -1,0 +1,43 @@
+-- Where the identity of the gates' rotation starts and what it turns by: the phase of the gates' vector is its b, for its a is zero, and the amount turned is b's
+-- amount plus the sum of the masks' under the key, modulo 2N.
+-- Assumes nothing.
+use mathlib.Core.Path.{_≡_, sym, ap, _∙_}
+use mathlib.Core.List.{List}
+use Prim.Native.Nat.{ℕ, zero, suc, _+_, _*_, _%_, _^_}
+use native.Mathlib.Nat.{mod-add-mod, zero-mul}
+use native.Mathlib.Omega.{arith}
+use Rattle.ring.specs.Word.{Q, neg, at}
+use Rattle.ring.specs.Sums.{sumTo, tab}
+use Rattle.ring.specs.Poly.{before, minus, times}
+use Rattle.ring.specs.Phase.{phase}
+use Rattle.ring.proofs.Tab.{at-tab, tab-ext}
+use Rattle.ring.proofs.SumLaws.{sum-ext, sum-zero}
+use Rattle.params.specs.declared.Params.{Params}
+use Rattle.params.specs.Sizes.{size}
+use Rattle.key.specs.Testvec.{testB}
+use Rattle.rotation.specs.Amount.{maskAmount, bodyAmount}
+use Rattle.blind_rotation.specs.Blind.{testPair}
+use Rattle.blind_rotation.specs.Drift.{turnTo}
+
+-- nothing times z
+zero-times : (N : ℕ) (z : List ℕ) → times N (tab N (λ i. 0)) z ≡ tab N (λ i. 0)
+unfolding times Q
+zero-times N z = tab-ext N _ _ (λ k l.
+    ap (λ (n : ℕ). n % Q) (sum-ext N _ (λ i. 0) (λ i li. ap (λ (n : ℕ). n * before N z k i) (at-tab N (λ i. 0) i li) ∙ zero-mul (before N z k i)) ∙ sum-zero N))
+
+pub test-phase : (p : Params) (z : List ℕ) → phase (size p) z (testPair p .a) (testPair p .b) ≡ testB p
+unfolding phase minus neg Q
+test-phase p z = tab-ext (size p) _ _ (λ i l.
+    let e = at-tab (size p) (λ i. 2 ^ 29) i l in
+    let f : at (times (size p) (tab (size p) (λ i. 0)) z) i ≡ 0 = ap (λ (t : List ℕ). at t i) (zero-times (size p) z) ∙ at-tab (size p) (λ i. 0) i l in
+    omega arith)
+
+pub turn-sum : (p : Params) (s src : List ℕ) (k : ℕ)
+    → turnTo p s src k ≡ (bodyAmount p (at src (p .n)) + sumTo k (λ i. at s i * maskAmount p (at src i))) % (size p + size p)
+unfolding turnTo sumTo
+turn-sum p s src zero = ap (λ (n : ℕ). n % (size p + size p)) (let q : bodyAmount p (at src (p .n)) ≡ bodyAmount p (at src (p .n)) + 0 = omega arith in q)
+turn-sum p s src (suc k) =
+    ap (λ (n : ℕ). (n + at s k * maskAmount p (at src k)) % (size p + size p)) (turn-sum p s src k)
+    ∙ mod-add-mod _ (size p + size p) _
+    ∙ ap (λ (n : ℕ). n % (size p + size p)) (let S : ℕ = sumTo k (λ i. at s i * maskAmount p (at src i)) in
+    let q : bodyAmount p (at src (p .n)) + S + at s k * maskAmount p (at src k) ≡ bodyAmount p (at src (p .n)) + (S + at s k * maskAmount p (at src k)) = omega arith in q)

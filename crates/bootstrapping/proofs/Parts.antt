@@ -1,0 +1,139 @@
+-- The rows as the code makes them: a constant polynomial is one word, sums of three come in any order, the parts that the code lends are the words
+-- that a row or a bit draws, and every part lies within what was lent. Words one by one, the ring's laws, and products of bounds.
+-- Assumes nothing.
+use mathlib.Core.Path.{_≡_, refl, sym, ap, ap₂, _∙_}
+use mathlib.Core.List.{List, [], _∷_, _++_, append-nil}
+use Prim.Native.Nat.{ℕ, zero, suc, _+_, _-_, _*_, _%_, _^_, _≤_, _<_}
+use native.Mathlib.Nat.{mul-le-mul-right, add-sub-cancel-left}
+use native.Mathlib.Numerals.{add-one}
+use native.Mathlib.Omega.{arith}
+use borrow.Author.Tests.{lt-ltb, le-ltb}
+use lib.ListN.{length, take, drop, length-append, length-drop, drop-of-length-le}
+use lib.Seq.{take-at, drop-at}
+use borrow.Rule.Slice.PartMut.{putMid}
+use Rattle.ring.specs.Word.{Q, at}
+use Rattle.ring.specs.Sums.{tab}
+use Rattle.ring.specs.Poly.{plus, times, scale}
+use Rattle.ring.proofs.Tab.{at-tab, tab-ext}
+use Rattle.ring.proofs.Laws.{plus-assoc, plus-comm}
+use Rattle.params.specs.declared.Params.{Params}
+use Rattle.params.specs.Ranges.{InRange}
+use Rattle.params.specs.Sizes.{size, bitWords}
+use Rattle.params.proofs.Ranges.{size-from, l-to, sizes-small}
+use Rattle.product.specs.Product.{polyMulAddOut}
+use Rattle.product.proofs.Uses.{poly-mul-add-done, length-plus}
+use Rattle.key.proofs.Rows.{part-length}
+use Rattle.decomposition.specs.Digit.{weight}
+use Rattle.bootstrapping.specs.Rows.{maskMessage, bodyMessage, rowMask, rowBody, rowOf, rowDraw, torusRow, torusRows, bitDraws, bitDraw, keyBit}
+
+-- ---- what is added to the first word
+
+-- word i of the list of the one word c, and of c times the polynomial 1
+one-word : (c i : ℕ) → at (c % Q ∷ []) i ≡ c * at (1 ∷ []) i % Q
+unfolding Q
+one-word c zero = omega arith
+one-word c (suc i) = omega arith
+
+-- past the first word there is nothing
+pub past-first : (c i : ℕ) → 0 ≡ at (c ∷ []) (i + 1)
+past-first c i = sym (ap (at (c ∷ [])) (add-one i))
+
+-- the constant polynomial c is the word c
+pub constant : (N : ℕ) (a : List ℕ) (c : ℕ) → plus N a (c % Q ∷ []) ≡ plus N a (scale N c (1 ∷ []))
+unfolding plus scale
+constant N a c = tab-ext N _ _ (λ i l. ap (λ (x : ℕ). (at a i + x) % Q) (one-word c i ∙ sym (at-tab N (λ j. c * at (1 ∷ []) j % Q) i l)))
+
+-- three polynomials, the last two the other way round
+swap : (N : ℕ) → 0 < N → (a b c : List ℕ) → plus N (plus N a b) c ≡ plus N (plus N a c) b
+swap N h a b c = plus-assoc N h a b c ∙ ap (plus N a) (plus-comm N h b c) ∙ sym (plus-assoc N h a c b)
+
+module _ (p : Params) (m r : ℕ) where
+  pub mask-low : r < p .l → m * 2 ^ (32 - (r + 1) * p .bgbit) % Q ≡ maskMessage p m r % Q
+  unfolding maskMessage weight
+  mask-low h = rw (lt-ltb r (p .l) h)
+
+  pub mask-high : p .l ≤ r → 0 ≡ maskMessage p m r % Q
+  unfolding maskMessage Q
+  mask-high h = rw (le-ltb r (p .l) h)
+
+  pub body-low : r < p .l → 0 ≡ bodyMessage p m r % Q
+  unfolding bodyMessage Q
+  body-low h = rw (lt-ltb r (p .l) h)
+
+  pub body-high : p .l ≤ r → m * 2 ^ (32 - (r - p .l + 1) * p .bgbit) % Q ≡ bodyMessage p m r % Q
+  unfolding bodyMessage weight
+  body-high h = rw (le-ltb r (p .l) h)
+
+-- the shift of digit i, below L, is in range
+pub shift-in : (p : Params) → InRange p → (i : ℕ) → i < p .l → (i < 32) × (p .bgbit ≤ 24) × ((i + 1) * p .bgbit ≤ 32)
+shift-in p r i h = omega (arith, r, l-to p r, mul-le-mul-right (p .bgbit) h)
+
+-- ---- what the callees leave
+
+module _ (p : Params) (range : InRange p) where
+  -- b: the noise and the word, then the product
+  pub body-made : (c : ℕ) (masks noise key : List ℕ) (o : List ℕ) → {sum out : List ℕ} → length masks ≡ size p → length key ≡ size p → length o ≡ size p
+      → sum ≡ plus (length o) noise (c ∷ []) → out ≡ polyMulAddOut p masks key sum
+      → out ≡ plus (size p) (plus (size p) noise (c ∷ [])) (times (size p) masks key)
+  body-made c masks noise key o {sum} lm lk lo e f =
+      let s : sum ≡ plus (size p) noise (c ∷ []) = e ∙ ap (λ (k : ℕ). plus k noise (c ∷ [])) lo in
+      f ∙ poly-mul-add-done p range masks key sum lm lk (ap length s ∙ length-plus (size p) noise (c ∷ []))
+      ∙ ap (λ (l : List ℕ). plus (size p) l (times (size p) masks key)) s
+
+  -- the row, the words added being those of its number
+  pub row-made : (m r : ℕ) (key masks noise : List ℕ) {x y : ℕ} {out : List ℕ} → x ≡ maskMessage p m r % Q → y ≡ bodyMessage p m r % Q
+      → out ≡ plus (size p) masks (x ∷ []) ++ plus (size p) (plus (size p) noise (y ∷ [])) (times (size p) masks key)
+      → out ≡ rowOf p m r key masks noise
+  unfolding rowOf rowMask rowBody
+  row-made m r key masks noise ex ey e =
+      e ∙ ap₂ (λ (a b : List ℕ). a ++ b)
+      (ap (λ (x : ℕ). plus (size p) masks (x ∷ [])) ex ∙ constant (size p) masks (maskMessage p m r))
+      (ap (λ (y : ℕ). plus (size p) (plus (size p) noise (y ∷ [])) (times (size p) masks key)) ey
+      ∙ ap (λ (l : List ℕ). plus (size p) l (times (size p) masks key)) (constant (size p) noise (bodyMessage p m r))
+      ∙ swap (size p) (size-from p) noise (scale (size p) (bodyMessage p m r) (1 ∷ [])) (times (size p) masks key))
+
+-- ---- the two halves of a row
+
+module _ (n : ℕ) (o e : List ℕ) (is : length e ≡ n) (two : length o ≡ n + n) where
+  -- the second half, the first being written
+  pub back-half : length (take (n + n - n) (drop n (e ++ drop n o))) ≡ n
+  back-half = part-length (e ++ drop n o) n n (simp (length-append, length-drop) (omega arith))
+
+  -- both written
+  pub both-halves : (e2 : List ℕ) → putMid n (n + n - n) (e ++ drop n o) e2 ≡ e ++ e2
+  both-halves e2 =
+      let rest : drop n (e ++ drop n o) ≡ drop n o = drop-at e (drop n o) n is in
+      let l : length (drop n o) ≤ n + n - n = rw (length-drop n o) (omega arith) in
+      ap₂ (λ (x y : List ℕ). x ++ (e2 ++ y)) (take-at e (drop n o) n is) (ap (drop (n + n - n)) rest ∙ drop-of-length-le (drop n o) l)
+      ∙ ap (λ (x : List ℕ). e ++ x) (append-nil e2)
+
+-- ---- the parts that the code lends
+
+-- part i of so many, each of w words, ends within them
+pub fits : (i count w v : ℕ) {len : ℕ} → i < count → w ≡ v → len ≡ count * v → i * w + w ≤ len
+fits i count w v h e l = let q = ap (λ (k : ℕ). i * k + k) e in let a = mul-le-mul-right v h in omega arith
+
+module _ (p : Params) (n : ℕ) (e : n ≡ size p) where
+  -- the words of a bit are twice its draws
+  pub twice-draws : (p .l + p .l) * n + (p .l + p .l) * n ≡ bitWords p
+  twice-draws = ap (λ (k : ℕ). (p .l + p .l) * k + (p .l + p .l) * k) e ∙ omega arith
+
+  pub draws-small : InRange p → (p .l + p .l) * n ≤ 65536
+  draws-small r = let q = ap (λ (k : ℕ). (p .l + p .l) * k) e in let s = sizes-small p r .bitmask in omega arith
+
+-- a part of w words
+pub part-is : (l : List ℕ) (i w v : ℕ) → w ≡ v → take (i * w + w - i * w) (drop (i * w) l) ≡ take v (drop (i * v) l)
+part-is l i w v e = ap (λ (k : ℕ). take k (drop (i * w) l)) (add-sub-cancel-left (i * w) w) ∙ ap (λ (k : ℕ). take k (drop (i * k) l)) e
+
+module _ (p : Params) (z masks noise : List ℕ) where
+  -- row r, its draws being lent as parts
+  pub row-drawn : (m r n : ℕ) → n ≡ size p → {out : List ℕ}
+      → out ≡ rowOf p m r z (take (r * n + n - r * n) (drop (r * n) masks)) (take (r * n + n - r * n) (drop (r * n) noise)) → out ≡ torusRow p m z masks noise r
+  unfolding torusRow rowDraw
+  row-drawn m r n e f = f ∙ ap₂ (λ (a b : List ℕ). rowOf p m r z a b) (part-is masks r n (size p) e) (part-is noise r n (size p) e)
+
+  -- bit i
+  pub bit-drawn : (key : List ℕ) (i w : ℕ) → w ≡ bitDraws p → {out : List ℕ}
+      → out ≡ torusRows p (at key i) z (take (i * w + w - i * w) (drop (i * w) masks)) (take (i * w + w - i * w) (drop (i * w) noise)) → out ≡ keyBit p key z masks noise i
+  unfolding keyBit bitDraw
+  bit-drawn key i w e f = f ∙ ap₂ (λ (a b : List ℕ). torusRows p (at key i) z a b) (part-is masks i w (bitDraws p) e) (part-is noise i w (bitDraws p) e)

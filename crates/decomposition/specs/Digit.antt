@@ -1,0 +1,44 @@
+-- The gadget decomposition of a word and of a polynomial (TFHE paper, Definition 3.6 and Algorithm 1; 01, trgsw).
+use mathlib.Core.List.{List}
+use Prim.Native.Nat.{ℕ, _+_, _-_, _*_, _/_, _%_, _^_}
+use Rattle.ring.specs.Word.{Q, at, neg}
+use Rattle.ring.specs.Sums.{tab}
+use lib.Dec.{eqb, ltb}
+use Rattle.params.specs.declared.Params.{Params}
+use Rattle.params.specs.Refusal.{check, answer, ifDone}
+use Rattle.params.specs.Ranges.{paramsNumber}
+use Rattle.params.specs.Sizes.{size}
+use Rattle.decomposition.specs.declared.WordDigit.{WordDigit}
+use Rattle.key.specs.Offset.{offset}
+
+-- Field i from the top, of w bits, of a word.
+unfoldable pub fieldOf : ℕ → ℕ → ℕ → ℕ
+fieldOf x w i = x / 2 ^ (32 - (i + 1) * w) % 2 ^ w
+
+-- Digit i of the word x (01, trgsw): field i of x with the offset added, which wraps, less 2^(BGBIT-1); a word, so a negative digit -d is Q - d.
+unfoldable pub digitOf : Params → ℕ → ℕ → ℕ
+digitOf p x i = (fieldOf ((x + offset p) % Q) (p .bgbit) i + neg (2 ^ (p .bgbit - 1))) % Q
+
+-- The digit polynomial i of a: digit i of each coefficient.
+unfoldable pub digitPoly : Params → ℕ → List ℕ → List ℕ
+digitPoly p i a = tab (size p) (λ x. digitOf p (at a x) i)
+
+-- g_i, what digit i counts: 2^(32-(i+1)·BGBIT) (01, key).
+unfoldable pub weight : Params → ℕ → ℕ
+weight p i = 2 ^ (32 - (i + 1) * p .bgbit)
+
+-- The word x with its 32 - L·BGBIT low bits cleared: what its digits recompose to (01, trgsw). L·BGBIT = 32 clears none.
+unfoldable pub cleared : Params → ℕ → ℕ
+cleared p x = x / 2 ^ (32 - p .l * p .bgbit) * 2 ^ (32 - p .l * p .bgbit)
+
+-- Each coefficient of a with its low bits cleared.
+unfoldable pub clearedPoly : Params → List ℕ → List ℕ
+clearedPoly p a = tab (size p) (λ x. cleared p (at a x))
+
+-- The refusals of `digit` at the index i: 1, then 3 unless i is below L.
+unfoldable pub digitNumber : Params → ℕ → ℕ
+digitNumber p i = check (eqb (paramsNumber p) 0) 1 (check (ltb i (p .l)) 3 0)
+
+-- What `digit` hands back: the refusal with the digit 0, or digit i of x.
+unfoldable pub digitOut : Params → ℕ → ℕ → WordDigit
+digitOut p x i = record { answer = answer (digitNumber p i); value = ifDone (digitNumber p i) (digitOf p x i) 0 }

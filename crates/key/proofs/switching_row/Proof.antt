@@ -1,0 +1,105 @@
+-- `key::switching_row` meets its contract: an index that is not refused has its row within the key.
+-- Assumes nothing.
+use mathlib.Core.Path.{_≡_, sym, ap, _∙_}
+use Prim.Native.Nat.{ℕ, _+_, _*_, _≤_}
+use native.Mathlib.Nat.{add-sub-cancel-left}
+use native.Mathlib.Omega.{arith}
+use lib.ListN.{length, take, drop}
+use Rattle.params.specs.Sizes.{size, base, switchingRows}
+use Rattle.params.proofs.Answers.{kept, done}
+use Rattle.params.proofs.Ranges.{sizes-small, size-to, base-to, t-to}
+use Rattle.key.specs.Switching.{rowIndex, rowPart, lookupNumber}
+use Rattle.key.proofs.Checks.{LookupGood, lookup-good}
+use Rattle.key.proofs.Rows.{row-end, row-small}
+use borrow.Author.Needs.{needs}
+use Rattle.key.proofs.switching_row.Statement.{statement}
+use Rattle.key.proofs.switching_row.Tie as tie
+
+-- where the number is 0 nothing is refused
+good : (c : tie.Else1) → let g = c .before .before .before .args in LookupGood (g .p) (length (g .key .now)) (g .i) (g .j) (g .k)
+good c = lookup-good _ _ _ _ _ (sym (c .before .lookup-number .ensures) ∙ c .if1 .left)
+
+-- the row's place, and that it ends within the key
+row : (c : tie.After-row-index) → let g = c .before .before .before .before .args in c .row-index .result ≡ rowIndex (g .p) (g .i) (g .j) (g .k)
+row c = let g = c .before .before .before .before .args in let l = good (c .before) in c .row-index .ensures ∙ row-small (g .p) (g .i) (g .j) (g .k) (l .outer) (l .field) (l .digit) (l .range)
+
+ends : (c : tie.After-row-index) → let g = c .before .before .before .before .args in c .row-index .result * (g .p .n + 1) + (g .p .n + 1) ≤ length (g .key .now)
+ends c =
+    let g = c .before .before .before .before .args in
+    let l = good (c .before) in
+    rw (row c, l .key) (row-end (g .p) (g .i) (g .j) (g .k) (l .outer) (l .field) (l .digit))
+
+lookup-number-requires : tie.Need-lookup-number-requires
+lookup-number-requires c κs = search needs
+
+slice-aggregate-result : tie.Need-slice-aggregate-result
+slice-aggregate-result c = search needs
+
+returns : tie.Need-returns
+returns c = kept _ _ _ (λ e. c .before .if1 .taken (c .before .before .lookup-number .ensures ∙ e))
+
+cast-row-index : tie.Need-cast-row-index
+cast-row-index c = let l = good c in omega (arith, size-to _ (l .range))
+
+cast-row-index-2 : tie.Need-cast-row-index-2
+cast-row-index-2 c = let l = good c in omega (arith, t-to _ (l .range))
+
+cast-row-index-3 : tie.Need-cast-row-index-3
+cast-row-index-3 c = let l = good c in omega (arith, base-to _ (l .range))
+
+row-index-requires : tie.Need-row-index-requires
+row-index-requires c κs = search needs
+
+cast-row : tie.Need-cast-row
+cast-row c = search needs
+
+cast-width : tie.Need-cast-width
+cast-width c = search needs
+
+add-width : tie.Need-add-width
+add-width c = search needs
+
+mul-at : tie.Need-mul-at
+mul-at c = omega (arith, ends (c .before))
+
+add-end : tie.Need-add-end
+add-end c = omega (arith, ends (c .before))
+
+mul-result : tie.Need-mul-result
+mul-result c = omega (arith, ends (c .before))
+
+sub-result : tie.Need-sub-result
+sub-result c = search needs
+
+part-result-start : tie.Need-part-result-start
+part-result-start c = search needs
+
+part-result-end : tie.Need-part-result-end
+part-result-end c = omega (arith, ends (c .before))
+
+returns-2 : tie.Need-returns-2
+unfolding rowPart
+returns-2 c =
+    done _ _ _ (sym (c .before .before .before .before .lookup-number .ensures) ∙ c .before .before .before .if1 .left) (rw (row (c .before .before), add-sub-cancel-left))
+
+pub switching-row-spec : {M : Type 1} → statement M
+switching-row-spec =
+    tie.close
+    (tie.spec
+    lookup-number-requires
+    slice-aggregate-result
+    returns
+    cast-row-index
+    cast-row-index-2
+    cast-row-index-3
+    row-index-requires
+    cast-row
+    cast-width
+    add-width
+    mul-at
+    add-end
+    mul-result
+    sub-result
+    part-result-start
+    part-result-end
+    returns-2)

@@ -1,0 +1,4 @@
+pub mod Offset
+pub mod Testvec
+pub mod Switching
+pub mod Generation

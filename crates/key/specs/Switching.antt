@@ -1,0 +1,37 @@
+-- The layout of the switching key, and what its rows carry (01, key; `gen_key_switching_key` of src/key.rs).
+use mathlib.Core.List.{List}
+use Prim.Native.Nat.{ℕ, _+_, _*_, _-_, _%_, _^_}
+use lib.Dec.{eqb, ltb}
+use lib.ListN.{take, drop}
+use Rattle.ring.specs.Word.{Q, at, neg}
+use Rattle.params.specs.declared.Params.{Params}
+use Rattle.params.specs.Refusal.{check}
+use Rattle.params.specs.Ranges.{paramsNumber}
+use Rattle.params.specs.Sizes.{size, base, switchingRows}
+use Rattle.tlwe.specs.Key.{phaseOf}
+
+-- The place of row (i, j, k) among the rows: for i below N, j below T, k below BASE.
+unfoldable pub rowIndex : Params → ℕ → ℕ → ℕ → ℕ
+rowIndex p i j k = base p * p .t * i + base p * j + k
+
+-- Row (i, j, k) of a key: its n + 1 words.
+unfoldable pub rowPart : Params → List ℕ → ℕ → ℕ → ℕ → List ℕ
+rowPart p key i j k = take (p .n + 1) (drop (rowIndex p i j k * (p .n + 1)) key)
+
+-- What row (i, j, k) should carry, z being the level-1 key: k·z_i·2^(32-(j+1)·BASEBIT) (01, key and Drift).
+unfoldable pub carried : Params → List ℕ → ℕ → ℕ → ℕ → ℕ
+carried p z i j k = k * at z i * 2 ^ (32 - (j + 1) * p .basebit) % Q
+
+-- The error of row (i, j, k) of a key, as a word: its phase under the level-0 key, less what it should carry (01, Drift; there centred).
+unfoldable pub rowError : Params → List ℕ → List ℕ → List ℕ → ℕ → ℕ → ℕ → ℕ
+rowError p key z rows i j k = (phaseOf (p .n) key (rowPart p rows i j k) + neg (carried p z i j k)) % Q
+
+-- The refusal of a lookup of row (i, j, k) in a key of so many words: 1, 2, then 3 for each index in turn.
+unfoldable pub lookupNumber : Params → ℕ → ℕ → ℕ → ℕ → ℕ
+lookupNumber p len i j k =
+    check (eqb (paramsNumber p) 0) 1
+    (check (eqb len (switchingRows p * (p .n + 1))) 2
+    (check (ltb i (size p)) 3
+    (check (ltb j (p .t)) 3
+    (check (ltb k (base p)) 3
+    0))))

@@ -1,0 +1,220 @@
+// Key material (src/key.rs): the decomposition offset, the test vector of the gates, the switching key and the lookup of its rows.
+ghost use mathlib.Core.Path.{_≡_};
+ghost use mathlib.Core.List.{[]};
+ghost use Prim.Native.Nat.{_+_, _-_, _*_, _%_, _^_, _≤_, _<_};
+ghost use lib.ListN.{length};
+ghost use Rattle.ring.specs.Word.{Q};
+ghost use Rattle.ring.specs.Sums.{tab};
+ghost use Rattle.params.specs.Refusal.{answer, ifDone};
+ghost use Rattle.params.specs.Ranges.{InRange};
+ghost use Rattle.key.specs.Offset.{offset, offsetOut};
+ghost use Rattle.key.specs.Testvec.{testNumber, testA, testB};
+ghost use Rattle.key.specs.Switching.{rowIndex, rowPart, lookupNumber};
+ghost use Rattle.key.specs.Generation.{generateNumber, generated};
+
+mod generate;
+
+use params::Answer;
+use params::Params;
+
+// The answer, and the offset beside it: 0 where refused.
+pub struct Offset {
+    pub answer: Answer,
+    pub value: u32,
+}
+
+// The sum over i below L of 2^(31 - i·BGBIT), the parameters being in range: half a digit in each of the L top fields.
+fn offset_sum(p: Params) -> u32
+    requires { ⌜ InRange p ⌝ }
+    ensures { λ r. ⌜ r ≡ offset p ⌝ }
+{
+    let l = p.l;
+    let bgbit = p.bgbit;
+    let mut sum: u32 = 0;
+    let mut i: u32 = 0;
+    while i < l {
+        sum = ring::add(sum, ring::power(31 - i * bgbit));
+        i += 1;
+    }
+    sum
+}
+
+// `gen_decomposition_offset`: what decomposition adds to a word first. Refusal: 1.
+pub fn decomposition_offset(p: Params) -> Offset
+    ensures { λ r. ⌜ r ≡ offsetOut p ⌝ }
+{
+    let answer = params::check(p);
+    if answer.number != 0 {
+        return Offset { answer, value: 0 };
+    }
+    Offset {
+        answer,
+        value: offset_sum(p),
+    }
+}
+
+// Every word of out set to v.
+fn fill(out: &mut [u32], v: u32)
+    ensures { λ _. ⌜ now (out .exit) ≡ tab (length (now (out .entry))) (λ i. v) ⌝ }
+{
+    let m = out.len();
+    let mut i = 0;
+    while i < m {
+        out[i] = v;
+        i += 1;
+    }
+}
+
+// The refusal of `gen_testvec`: the parameters, then both lengths.
+fn testvec_number(p: Params, a: usize, b: usize) -> u32
+    ensures { λ r. ⌜ r ≡ testNumber p a b ⌝ }
+{
+    let s = params::sizes_of(p);
+    if s.number != 0 {
+        return 1;
+    }
+    if a != s.size {
+        return 2;
+    }
+    if b != s.size {
+        return 2;
+    }
+    0
+}
+
+// `gen_testvec`: a zero, b an eighth of a turn in every word. Refusals: 1, 2.
+pub fn gen_testvec(p: Params, a: &mut [u32], b: &mut [u32]) -> Answer
+    ensures said { λ r. ⌜ r ≡ answer (testNumber p (length (now (a .entry))) (length (now (b .entry)))) ⌝ }
+    ensures first { λ r. ⌜ now (a .exit) ≡ ifDone (testNumber p (length (now (a .entry))) (length (now (b .entry)))) (testA p) (now (a .entry)) ⌝ }
+    ensures second { λ r. ⌜ now (b .exit) ≡ ifDone (testNumber p (length (now (a .entry))) (length (now (b .entry)))) (testB p) (now (b .entry)) ⌝ }
+{
+    let number = testvec_number(p, a.len(), b.len());
+    if number != 0 {
+        return Answer { number, place: 0 };
+    }
+    fill(a, 0);
+    fill(b, 0x2000_0000);
+    Answer {
+        number: 0,
+        place: 0,
+    }
+}
+
+// The place of row (i, j, k) among the rows of the switching key, taken modulo 2^32: a key in range has far fewer rows (`row-small`).
+pub fn row_index(p: Params, i: u32, j: u32, k: u32) -> u32
+    ensures { λ r. ⌜ r ≡ rowIndex p i j k % Q ⌝ }
+{
+    let base = ring::power(p.basebit);
+    let outer = ring::mul(ring::mul(base, p.t), i);
+    let inner = ring::mul(base, j);
+    ring::add(ring::add(outer, inner), k)
+}
+
+// The refusal of a lookup: the parameters, the key's length, then the three indices.
+fn lookup_number(p: Params, len: usize, i: usize, j: usize, k: usize) -> u32
+    ensures { λ r. ⌜ r ≡ lookupNumber p len i j k ⌝ }
+{
+    let s = params::sizes_of(p);
+    if s.number != 0 {
+        return 1;
+    }
+    if len != s.ksk {
+        return 2;
+    }
+    if s.size <= i {
+        return 3;
+    }
+    if (p.t as usize) <= j {
+        return 3;
+    }
+    if (ring::power(p.basebit) as usize) <= k {
+        return 3;
+    }
+    0
+}
+
+// What a lookup of row (i, j, k) in a switching key of so many words is answered. Refusals: 1, 2, 3.
+pub fn switching_row_answer(p: Params, length: usize, i: usize, j: usize, k: usize) -> Answer
+    ensures { λ r. ⌜ r ≡ answer (lookupNumber p length i j k) ⌝ }
+{
+    Answer {
+        number: lookup_number(p, length, i, j, k),
+        place: 0,
+    }
+}
+
+// Row (i, j, k), as that part of the lent key; the empty part where `switching_row_answer` gives a refusal.
+pub fn switching_row(p: Params, key: &[u32], i: usize, j: usize, k: usize) -> &[u32]
+    ensures { λ r. ⌜ now r ≡ ifDone (lookupNumber p (length (now (key .entry))) i j k) (rowPart p (now (key .entry)) i j k) [] ⌝ }
+{
+    if lookup_number(p, key.len(), i, j, k) != 0 {
+        return &key[..0];
+    }
+    let row = row_index(p, i as u32, j as u32, k as u32) as usize;
+    let width = p.n as usize + 1;
+    let at = row * width;
+    let end = at + width;
+    &key[at..end]
+}
+
+// The refusal of `gen_key_switching_key`: the parameters, every length, then both keys.
+fn generate_number(
+    p: Params,
+    key_lv0: &[u32],
+    key_lv1: &[u32],
+    masks: usize,
+    noise: usize,
+    out: usize,
+) -> u32
+    ensures { λ r. ⌜ r ≡ generateNumber p (now («key_lv0» .entry)) (now («key_lv1» .entry)) masks noise out ⌝ }
+{
+    let s = params::sizes_of(p);
+    if s.number != 0 {
+        return 1;
+    }
+    if key_lv0.len() != s.n {
+        return 2;
+    }
+    if key_lv1.len() != s.size {
+        return 2;
+    }
+    if masks != s.kskmasks {
+        return 2;
+    }
+    if noise != s.ksknoise {
+        return 2;
+    }
+    if out != s.ksk {
+        return 2;
+    }
+    if tlwe::keys::key_number(key_lv0) != 0 {
+        return 4;
+    }
+    if tlwe::keys::key_number(key_lv1) != 0 {
+        return 4;
+    }
+    0
+}
+
+// `gen_key_switching_key` with lent masks and noise, drawn in row order by the rows with k from 1. Refusals: 1, 2, 4.
+pub fn gen_key_switching_key(
+    p: Params,
+    key_lv0: &[u32],
+    key_lv1: &[u32],
+    masks: &[u32],
+    noise: &[u32],
+    out: &mut [u32],
+) -> Answer
+    ensures said { λ r. ⌜ r ≡ answer (generateNumber p (now («key_lv0» .entry)) (now («key_lv1» .entry)) (length (now (masks .entry))) (length (now (noise .entry))) (length (now (out .entry)))) ⌝ }
+    ensures written { λ r. ⌜ now (out .exit) ≡ ifDone (generateNumber p (now («key_lv0» .entry)) (now («key_lv1» .entry)) (length (now (masks .entry))) (length (now (noise .entry))) (length (now (out .entry)))) (generated p (now («key_lv0» .entry)) (now («key_lv1» .entry)) (now (masks .entry)) (now (noise .entry))) (now (out .entry)) ⌝ }
+{
+    let number = generate_number(p, key_lv0, key_lv1, masks.len(), noise.len(), out.len());
+    if number != 0 {
+        return Answer { number, place: 0 };
+    }
+    generate::generate(p, key_lv0, key_lv1, masks, noise, out);
+    Answer {
+        number: 0,
+        place: 0,
+    }
+}

@@ -1,0 +1,49 @@
+-- `switching::field` meets its contract: the shifts lose nothing, since BASEBIT·T is at most 30.
+-- Assumes nothing.
+use mathlib.Core.Path.{_≡_, ap, ap₂, _∙_}
+use Prim.Native.Nat.{ℕ, _/_, _%_}
+use native.Mathlib.Omega.{arith}
+use lib.Pow.{pow-pos}
+use Rattle.switching.specs.Switched.{weight, fieldOf}
+use Rattle.switching.proofs.Fields.{fields-fit}
+use borrow.Author.Needs.{needs}
+use Rattle.switching.proofs.field.Statement.{statement}
+use Rattle.switching.proofs.field.Tie as tie
+
+add-two-to : tie.Need-add-two-to
+add-two-to c = search needs
+
+mul-two-to : tie.Need-mul-two-to
+mul-two-to c = let d = c .before in omega (arith, fields-fit (d .args .p) (d .pre .0) (d .args .j) (d .pre .1))
+
+sub-two-to : tie.Need-sub-two-to
+sub-two-to c = let d = c .before in omega (arith, fields-fit (d .args .p) (d .pre .0) (d .args .j) (d .pre .1))
+
+two-to-requires : tie.Need-two-to-requires
+two-to-requires c κs = search needs
+
+div-result : tie.Need-div-result
+div-result c = rw (c .two-to .ensures) (pow-pos _)
+
+two-to-requires-2 : tie.Need-two-to-requires-2
+two-to-requires-2 c κs = search needs
+
+rem-result : tie.Need-rem-result
+rem-result c = rw (c .two-to2 .ensures) (pow-pos _)
+
+returns : tie.Need-returns
+unfolding fieldOf weight
+returns c = ap₂ (λ (w b : ℕ). c .before .before .before .args .x / w % b) (c .before .two-to .ensures) (c .two-to2 .ensures)
+
+pub field-spec : {M : Type 1} → statement M
+field-spec =
+    tie.close
+    (tie.spec
+    add-two-to
+    mul-two-to
+    sub-two-to
+    two-to-requires
+    div-result
+    two-to-requires-2
+    rem-result
+    returns)

@@ -1,0 +1,25 @@
+-- What key switching adds to a phase (01, Drift, 'Switching'), as a word: the drift is reckoned modulo 2^32 and centred at its end.
+use mathlib.Core.List.{List}
+use Prim.Native.Nat.{ℕ, _+_, _*_, _-_, _%_, _^_}
+use Rattle.params.specs.declared.Params.{Params}
+use Rattle.params.specs.Sizes.{size}
+use Rattle.ring.specs.Word.{Q, at, neg}
+use Rattle.ring.specs.Sums.{sumTo}
+use Rattle.key.specs.Switching.{rowError}
+use Rattle.switching.specs.Switched.{rounding, rounded, fieldAt, used}
+
+-- The low bits of the mask a that are dropped once its rounding is added.
+unfoldable pub dropped : Params → ℕ → ℕ
+dropped p a = rounded p a % 2 ^ (32 - p .basebit * p .t)
+
+-- The errors of the rows that mask i uses.
+unfoldable pub usedErrors : Params → List ℕ → List ℕ → List ℕ → List ℕ → ℕ → ℕ
+usedErrors p key z rows src i = sumTo (p .t) (λ j. used (fieldAt p src i j) (rowError p key z rows i j (fieldAt p src i j)))
+
+-- What mask i was rounded by, where z has a 1: 2^(31-BASEBIT·T) less the low bits dropped.
+unfoldable pub roundedBy : Params → List ℕ → List ℕ → ℕ → ℕ
+roundedBy p z src i = at z i * (rounding p + neg (dropped p (at src i)))
+
+-- The drift of switching: less the errors of the rows used, and less what each mask under a 1 of z was rounded by.
+unfoldable pub switchingDrift : Params → List ℕ → List ℕ → List ℕ → List ℕ → ℕ
+switchingDrift p key z rows src = neg (sumTo (size p) (λ i. usedErrors p key z rows src i + roundedBy p z src i)) % Q

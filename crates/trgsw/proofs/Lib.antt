@@ -1,0 +1,4 @@
+pub mod Sums
+pub mod Checks
+pub mod Phase
+pub mod Determined

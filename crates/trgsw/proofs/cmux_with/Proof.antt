@@ -1,0 +1,74 @@
+-- `trgsw::cmux_with` meets its contract: the callees leave in2 - in1 and in1, to which the product is added.
+-- Assumes nothing.
+use mathlib.Core.Path.{ap, ap₂, _∙_}
+use mathlib.Core.List.{List}
+use Prim.Native.Nat.{ℕ}
+use native.Mathlib.Omega.{arith}
+use Rattle.ring.specs.Poly.{plus, minus}
+use Rattle.params.specs.Sizes.{size}
+use Rattle.decomposition.specs.Pair.{Pair}
+use Rattle.trgsw.specs.External.{external, cmuxOf}
+use borrow.Author.Needs.{needs}
+use Rattle.trgsw.proofs.cmux_with.Statement.{statement}
+use Rattle.trgsw.proofs.cmux_with.Tie as tie
+
+-- two polynomials as a pair
+abbrev pair : List ℕ → List ℕ → Pair
+pair a b = record { a = a; b = b }
+
+difference-requires : tie.Need-difference-requires
+difference-requires c κs = omega (arith, c .before .before .before .before .before .before .before .before .before .before .pre)
+
+difference-requires-2 : tie.Need-difference-requires-2
+difference-requires-2 c κs = omega (arith, c .before .before .before .before .before .before .before .before .before .before .before .before .before .before .pre)
+
+copy-requires : tie.Need-copy-requires
+copy-requires c κs = omega (arith, c .before .before .before .before .before .before .before .before .before .before .before .before .before .before .before .before .before .before .pre)
+
+copy-requires-2 : tie.Need-copy-requires-2
+copy-requires-2 c κs = omega (arith, c .before .before .before .before .before .before .before .before .before .before .before .before .before .before .before .before .before .before .before .before .before .before .pre)
+
+add-external-requires : tie.Need-add-external-requires
+add-external-requires c κs =
+    let r = c .before .before .before .before .before .before .before .before .before .before .before .before .before .before .before .before .before .before .before .before .before .before .before .before .before .before .before .before .before .pre in
+    (r .0, (r .1 .4, c .before .before .before .before .before .before .before .before .before .before .before .before .before .before .before .before .before .before .difference .kept .1 .1 .0 ∙ r .1 .5, c .before .before .before .before .before .before .before .before .before .before .before .before .before .before .difference2 .kept .1 .1 .0 ∙ r .1 .6, c .before .before .before .before .before .before .before .before .before .before .copy .kept .1 .0 ∙ r .1 .7, c .before .before .before .before .before .before .copy2 .kept .1 .0 ∙ r .1 .8))
+
+same-length : tie.Need-same-length
+same-length c = search needs
+
+same-length-2 : tie.Need-same-length-2
+same-length-2 c = search needs
+
+same-length-3 : tie.Need-same-length-3
+same-length-3 c = search needs
+
+same-length-4 : tie.Need-same-length-4
+same-length-4 c = search needs
+
+returns : tie.Need-returns
+unfolding cmuxOf
+returns c =
+    let s = c .before .before .before .before .before .before .before .before .before .before .before .before .before .before .before .before .before .before .before .before .before .before .before .before .before .before .before .before .before .before .before .before .before .before in
+    let g = s .args in
+    let N = size (g .p) in
+    let d = ap₂ pair (c .before .before .before .before .before .before .before .before .before .before .before .before .before .before .before .before .before .before .before .before .before .before .before .difference .ensures ∙ ap (λ (k : ℕ). minus k (g .a2 .now) (g .a1 .now)) (s .pre .1 .5))
+    (c .before .before .before .before .before .before .before .before .before .before .before .before .before .before .before .before .before .before .before .difference2 .ensures ∙ ap (λ (k : ℕ). minus k (g .b2 .now) (g .b1 .now)) (s .pre .1 .6)) in
+    let e = c .before .before .before .before .add-external .ensures in (
+      e .0 ∙ ap₂ (λ (w : Pair) (o : List ℕ). plus N (external (g .p) (g .rows .now) w .a) o) d (c .before .before .before .before .before .before .before .before .before .before .before .before .before .before .before .copy .ensures),
+      e .1 ∙ ap₂ (λ (w : Pair) (o : List ℕ). plus N (external (g .p) (g .rows .now) w .b) o) d (c .before .before .before .before .before .before .before .before .before .before .before .copy2 .ensures),
+    )
+
+pub cmux-with-spec : {M : Type 1} → statement M
+cmux-with-spec =
+    tie.close
+    (tie.spec
+    difference-requires
+    difference-requires-2
+    copy-requires
+    copy-requires-2
+    add-external-requires
+    same-length
+    same-length-2
+    same-length-3
+    same-length-4
+    returns)

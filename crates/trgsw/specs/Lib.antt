@@ -1,0 +1,3 @@
+pub mod External
+pub mod Errors
+pub mod Refusals
