@@ -1,0 +1,159 @@
+-- The phases of the sums before rotation: the multiples of the operands' phases, and the eighths; so where the operands carry bits with drifts, the
+-- sum carries the kind's eighths with the multiples of the drifts.
+-- Assumes nothing.
+use mathlib.Core.Path.{_≡_, refl, sym, ap, ap₂, _∙_}
+use mathlib.Core.Bool.{Bool, true, false, not, cond}
+use mathlib.Core.List.{List, [], _∷_}
+use Prim.Native.Nat.{ℕ, zero, suc, _+_, _*_, _-_, _%_, _^_, _≤_, _<_}
+use native.Mathlib.Nat.{zero-mul, add-mod, mod-add-mod}
+use native.Mathlib.Omega.{arith}
+use lib.Dec.{eqb, leb, lit<}
+use borrow.Author.Tests.{eq-eqb, ne-eqb, leb-true}
+use Rattle.ring.specs.Word.{Q, at, neg}
+use Rattle.ring.specs.Sums.{sumTo, tab}
+use Rattle.ring.specs.Poly.{plus, scale}
+use Rattle.ring.specs.Phase.{inner, samplePhase}
+use Rattle.ring.proofs.Tab.{at-tab, tab-ext}
+use Rattle.ring.proofs.SumLaws.{sum-ext, sum-zero}
+use Rattle.ring.proofs.Words.{mul-mod-r}
+use Rattle.params.specs.declared.Params.{Params}
+use Rattle.params.specs.Sizes.{size}
+use Rattle.tlwe.specs.Key.{binary, phaseOf}
+use Rattle.tlwe.specs.Plain.{bitWord}
+use Rattle.tlwe.specs.Linear.{negative}
+use Rattle.tlwe.proofs.Phases.{phase-combine, phase-add, phase-neg}
+use Rattle.gates.specs.declared.Kind.{Kind}
+use Rattle.gates.specs.Kind.{weightsOf, eighth, sumOf}
+use Rattle.gates.specs.Sum.{lastWord, summed, muxSum, constantWord, constantOf}
+use Rattle.gates.specs.Drift.{roundingDrift, broughtIn}
+use Rattle.gates.proofs.Stores.{at-combined, at-plus}
+use Rattle.gates.proofs.Tables.{sum-words}
+
+-- ---- keys
+
+both : (b c : Bool) → cond b c false ≡ true → (b ≡ true) × (c ≡ true)
+both true c e = (refl, e)
+both false c e = absurd (let z : _≡_ {A = ℕ} 0 1 = cc in let q : ⊥ = omega arith in q)
+
+-- the words of a binary key
+pub key-bit : (key : List ℕ) → binary key ≡ true → (i : ℕ) → at key i ≤ 1
+unfolding binary
+key-bit [] e i = omega arith
+key-bit (k ∷ ks) e zero = leb-true k 1 (both (leb k 1) (binary ks) e .0)
+key-bit (k ∷ ks) e (suc i) = key-bit ks (both (leb k 1) (binary ks) e .1) i
+
+-- ---- a word added to the last of a ciphertext is added to its phase
+
+last-moved : (v f c i : ℕ) → v ≡ f % Q → ((f + c) % Q + neg i) % Q ≡ ((v + neg i) % Q + c) % Q
+unfolding neg Q
+last-moved v f c i e = omega arith
+
+mask-kept : (v f : ℕ) → v ≡ f % Q → (f + 0) % Q ≡ v
+unfolding Q
+mask-kept v f e = omega arith
+
+module _ (d : ℕ) (key : List ℕ) (c : ℕ) (f : ℕ → ℕ) (l : List ℕ) (h : (i : ℕ) → i < d + 1 → at l i ≡ f i % Q) where
+  abbrev stored : List ℕ
+  stored = tab (d + 1) (λ i. (f i + lastWord d c i) % Q)
+
+  last-at : at stored d ≡ (f d + c) % Q
+  last-at = at-tab (d + 1) _ d (omega arith) ∙ ap (λ (b : Bool). (f d + cond b c 0) % Q) (eq-eqb d d refl)
+
+  mask-at : (i : ℕ) → i < d → at stored i ≡ at l i
+  mask-at i b = at-tab (d + 1) _ i (omega arith) ∙ ap (λ (b : Bool). (f i + cond b c 0) % Q) (ne-eqb i d (λ e. let q : ⊥ = omega arith in q)) ∙ mask-kept (at l i) (f i) (h i (omega arith))
+
+  pub last-phase : phaseOf d key stored ≡ (phaseOf d key l + c) % Q
+  unfolding samplePhase inner
+  last-phase =
+      ap₂ (λ (x y : ℕ). (x + neg y) % Q) last-at (sum-ext d _ (λ i. at l i * at key i) (λ i b. ap (λ (x : ℕ). x * at key i) (mask-at i b)))
+      ∙ last-moved (at l d) (f d) c (sumTo d (λ i. at l i * at key i)) (h d (omega arith))
+
+-- ---- the sums
+
+-- the sum of a kind
+pub sum-phase : (p : Params) (kind : Kind) (key a b : List ℕ) → phaseOf (p .n) key (summed p kind a b)
+    ≡ ((weightsOf kind .a * phaseOf (p .n) key a + weightsOf kind .b * phaseOf (p .n) key b) % Q + weightsOf kind .added) % Q
+unfolding summed
+sum-phase p kind key a b =
+    let x = weightsOf kind .a in
+    let y = weightsOf kind .b in
+    let m = p .n + 1 in
+    last-phase (p .n) key (weightsOf kind .added) (λ i. x * at a i + y * at b i) (plus m (scale m x a) (scale m y b)) (λ i l. at-combined m x a y b i l)
+    ∙ ap (λ (t : ℕ). (t + weightsOf kind .added) % Q) (phase-combine (p .n) key x a y b)
+
+-- the sum of `mux`
+pub mux-phase : (p : Params) (z u v : List ℕ) → phaseOf (size p) z (muxSum p u v) ≡ ((phaseOf (size p) z u + phaseOf (size p) z v) % Q + eighth) % Q
+unfolding muxSum
+mux-phase p z u v =
+    last-phase (size p) z eighth (λ i. at u i + at v i) (plus (size p + 1) u v) (λ i l. at-plus (size p + 1) u v i l)
+    ∙ ap (λ (t : ℕ). (t + eighth) % Q) (phase-add (size p) z u v)
+
+-- drifts apart
+times-sum : (x A d : ℕ) → x * ((A + d) % Q) % Q ≡ (x * A + x * d) % Q
+times-sum x A d = mul-mod-r x (A + d) ∙ ap (λ (n : ℕ). n % Q) (let q : x * (A + d) ≡ x * A + x * d = omega arith in q)
+
+sum-parts : (x y s t u w c : ℕ) → x % Q ≡ (s + u) % Q → y % Q ≡ (t + w) % Q → ((x + y) % Q + c) % Q ≡ ((s + t + c) % Q + (u + w)) % Q
+sum-parts x y s t u w c e f =
+    ap (λ (n : ℕ). (n + c) % Q) (add-mod x y Q ∙ ap₂ (λ (m n : ℕ). (m + n) % Q) e f ∙ sym (add-mod (s + u) (t + w) Q))
+    ∙ mod-add-mod (s + u + (t + w)) Q c ∙ ap (λ (n : ℕ). n % Q) (let q : s + u + (t + w) + c ≡ s + t + c + (u + w) = omega arith in q)
+    ∙ sym (mod-add-mod (s + t + c) Q (u + w))
+
+apart : (x y A B da db c : ℕ) → ((x * ((A + da) % Q) + y * ((B + db) % Q)) % Q + c) % Q ≡ ((x * A + y * B + c) % Q + (x * da + y * db)) % Q
+apart x y A B da db c = sum-parts (x * ((A + da) % Q)) (y * ((B + db) % Q)) (x * A) (y * B) (x * da) (y * db) c (times-sum x A da) (times-sum y B db)
+
+together : (e d r : ℕ) → ((e + d) % Q + r) % Q ≡ (e + (d + r) % Q) % Q
+unfolding Q
+together e d r = omega arith
+
+-- operands that carry bits with drifts: the sum's phase and what rounding brings in are the eighths and the brought-in drift
+pub brought : (p : Params) (kind : Kind) (key a b : List ℕ) (va vb : Bool) (da db : ℕ)
+    → phaseOf (p .n) key a ≡ (bitWord va + da) % Q → phaseOf (p .n) key b ≡ (bitWord vb + db) % Q
+    → (phaseOf (p .n) key (summed p kind a b) + roundingDrift p key (summed p kind a b)) % Q ≡ (sumOf kind va vb * eighth + broughtIn p kind key (summed p kind a b) da db) % Q
+unfolding broughtIn
+brought p kind key a b va vb da db ea eb =
+    let x = weightsOf kind .a in
+    let y = weightsOf kind .b in
+    let c = weightsOf kind .added in
+    let r = roundingDrift p key (summed p kind a b) in
+    ap (λ (t : ℕ). (t + r) % Q) (sum-phase p kind key a b ∙ ap₂ (λ (s t : ℕ). ((x * s + y * t) % Q + c) % Q) ea eb ∙ apart x y (bitWord va) (bitWord vb) da db c
+    ∙ ap (λ (t : ℕ). (t + (x * da + y * db)) % Q) (sum-words kind va vb))
+    ∙ together (sumOf kind va vb * eighth) (x * da + y * db) r
+
+-- ---- the gates without a rotation
+
+negated-bit : (v : Bool) (d : ℕ) → neg ((bitWord v + d) % Q) % Q ≡ (bitWord (not v) + neg d) % Q
+unfolding neg Q
+negated-bit true d = omega arith
+negated-bit false d = omega arith
+
+-- `not` negates the bit, and the drift
+pub not-drift : (p : Params) (key a : List ℕ) (v : Bool) (d : ℕ) → phaseOf (p .n) key a ≡ (bitWord v + d) % Q
+    → phaseOf (p .n) key (negative (p .n + 1) a) ≡ (bitWord (not v) + neg d) % Q
+not-drift p key a v d e = phase-neg (p .n) key a a ∙ ap (λ (t : ℕ). neg t % Q) e ∙ negated-bit v d
+
+-- zero masks
+zero-phase : (d : ℕ) (key : List ℕ) → phaseOf d key (tab (d + 1) (λ i. 0)) ≡ 0
+unfolding samplePhase inner neg Q
+zero-phase d key =
+    ap₂ (λ (x y : ℕ). (x + (2 ^ 32 - y % 2 ^ 32)) % 2 ^ 32) (at-tab (d + 1) (λ i. 0) d (omega arith))
+    (sum-ext d _ (λ i. 0) (λ i l. ap (λ (x : ℕ). x * at key i) (at-tab (d + 1) (λ i. 0) i (omega arith)) ∙ zero-mul (at key i)) ∙ sum-zero d)
+
+constant-fits : (v : Bool) (b : Bool) → cond b (constantWord v) 0 ≡ (0 + cond b (constantWord v) 0) % Q
+unfolding Q
+constant-fits true true = refl
+constant-fits true false = refl
+constant-fits false true = refl
+constant-fits false false = refl
+
+constant-word : (v : Bool) → (0 + constantWord v) % Q ≡ (bitWord v + cond v 0 1) % Q
+unfolding Q
+constant-word true = refl
+constant-word false = refl
+
+-- the constants: true has the drift 0, false the drift 1
+pub constant-drift : (p : Params) (key : List ℕ) (v : Bool) → phaseOf (p .n) key (constantOf p v) ≡ (bitWord v + cond v 0 1) % Q
+unfolding constantOf Q
+constant-drift p key v =
+    ap (phaseOf (p .n) key) (tab-ext (p .n + 1) _ (λ i. (0 + lastWord (p .n) (constantWord v) i) % Q) (λ i l. constant-fits v (eqb i (p .n))))
+    ∙ last-phase (p .n) key (constantWord v) (λ i. 0) (tab (p .n + 1) (λ i. 0)) (λ i l. at-tab (p .n + 1) (λ i. 0) i l)
+    ∙ ap (λ (t : ℕ). (t + constantWord v) % Q) (zero-phase (p .n) key) ∙ constant-word v

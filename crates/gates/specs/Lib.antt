@@ -1,0 +1,5 @@
+pub mod Kind
+pub mod Sum
+pub mod Refusals
+pub mod Gate
+pub mod Drift
