@@ -1,0 +1,125 @@
+-- The circuit form (01, 'Circuits'; READINGS 6 and 7): the fields of a circuit's bytes, and the answer that reading them gives.
+use mathlib.Core.Bool.{Bool}
+use mathlib.Core.List.{List}
+use Prim.Native.Nat.{ℕ, zero, suc, _+_, _*_}
+use lib.Dec.{leb, ltb, eqb}
+use lib.ListN.{length}
+use Rattle.ring.specs.Word.{at}
+use Rattle.params.specs.declared.Answer.{Answer}
+use Rattle.params.specs.Refusal.{answer, pick, ifDone}
+use Rattle.circuit.specs.declared.Shape.{Shape}
+use Rattle.circuit.specs.Kinds.{kindOf, lastKind}
+
+-- The 16-bit field whose first byte stands at place i, low byte first; 0 past the end.
+unfoldable pub fieldAt : List ℕ → ℕ → ℕ
+fieldAt bs i = at bs i + 256 * at bs (i + 1)
+
+-- The version.
+abbrev pub version : List ℕ → ℕ
+version bs = fieldAt bs 3
+
+-- The number of inputs, which are the first wires.
+abbrev pub inputs : List ℕ → ℕ
+inputs bs = fieldAt bs 5
+
+-- The number of gates.
+abbrev pub gates : List ℕ → ℕ
+gates bs = fieldAt bs 7
+
+-- The number of outputs.
+abbrev pub outputs : List ℕ → ℕ
+outputs bs = fieldAt bs 9
+
+-- The version and the counts in one.
+unfoldable pub countsOf : List ℕ → Shape
+countsOf bs = record { version = version bs; inputs = inputs bs; gates = gates bs; outputs = outputs bs }
+
+-- The number of wires: the inputs, then one for each gate.
+abbrev pub wires : List ℕ → ℕ
+wires bs = inputs bs + gates bs
+
+-- Where gate g's 8 bytes begin: its kind, a zero byte, three operands.
+abbrev pub gatePlace : ℕ → ℕ
+gatePlace g = 11 + 8 * g
+
+-- The number of gate g's kind.
+abbrev pub kindAt : List ℕ → ℕ → ℕ
+kindAt bs g = at bs (gatePlace g)
+
+-- Operand x of gate g: a wire.
+abbrev pub operandAt : List ℕ → ℕ → ℕ → ℕ
+operandAt bs g x = fieldAt bs (gatePlace g + 2 + 2 * x)
+
+-- Where output o's two bytes begin: the outputs follow the gates.
+abbrev pub outputPlace : List ℕ → ℕ → ℕ
+outputPlace bs o = gatePlace (gates bs) + 2 * o
+
+-- The wire of output o.
+abbrev pub outputAt : List ℕ → ℕ → ℕ
+outputAt bs o = fieldAt bs (outputPlace bs o)
+
+-- ---- the answer
+
+-- A refusal, and the place of the field at fault.
+abbrev pub refusal : ℕ → ℕ → Answer
+refusal n p = record { number = n; place = p }
+
+-- The first answer where it refuses, else the second.
+abbrev pub orElse : Answer → Answer → Answer
+orElse a b = ifDone (a .number) b a
+
+-- One check: the refusal where the test fails, else what the checks after it give.
+abbrev pub checkAt : Bool → ℕ → ℕ → Answer → Answer
+checkAt test n p rest = pick test rest (refusal n p)
+
+-- The first refusal among f i, f (i + 1), .. of so many answers; done where none refuses.
+unfoldable pub first : (ℕ → Answer) → ℕ → ℕ → Answer
+first f i zero = answer 0
+first f i (suc left) = orElse (f i) (first f (suc i) left)
+
+-- The counts in order, then the total length.
+unfoldable pub countsAnswer : List ℕ → Answer
+countsAnswer bs =
+    checkAt (leb (inputs bs) 256) 8 5
+    (checkAt (leb (gates bs) 1024) 8 7
+    (checkAt (leb 1 (outputs bs)) 8 9
+    (checkAt (leb (outputs bs) 64) 8 9
+    (checkAt (eqb (length bs) (outputPlace bs (outputs bs))) 8 11
+    (answer 0)))))
+
+-- What comes before the gates: under 11 bytes it is 8 at once; then the mark `EGL`, the version, the counts and the length.
+unfoldable pub headAnswer : List ℕ → Answer
+headAnswer bs =
+    checkAt (leb 11 (length bs)) 8 0
+    (checkAt (eqb (at bs 0) 69) 6 0
+    (checkAt (eqb (at bs 1) 71) 6 0
+    (checkAt (eqb (at bs 2) 76) 6 0
+    (checkAt (eqb (version bs) 1) 7 3
+    (countsAnswer bs)))))
+
+-- Operand x of gate g: one that its kind needs is below its own wire, which is inputs + g; another is 0.
+unfoldable pub operandGood : List ℕ → ℕ → ℕ → Bool
+operandGood bs g x = pick (ltb x (kindOf (kindAt bs g) .operands)) (ltb (operandAt bs g x) (inputs bs + g)) (eqb (operandAt bs g x) 0)
+
+-- The operands of gate g, in order.
+unfoldable pub operandsAnswer : List ℕ → ℕ → Answer
+operandsAnswer bs g =
+    checkAt (operandGood bs g 0) 9 (gatePlace g + 2)
+    (checkAt (operandGood bs g 1) 9 (gatePlace g + 4)
+    (checkAt (operandGood bs g 2) 9 (gatePlace g + 6)
+    (answer 0)))
+
+-- Gate g, field by field: its kind, the zero byte, the operands.
+unfoldable pub gateAnswer : List ℕ → ℕ → Answer
+gateAnswer bs g =
+    checkAt (leb (kindAt bs g) lastKind) 9 (gatePlace g)
+    (checkAt (eqb (at bs (gatePlace g + 1)) 0) 9 (gatePlace g + 1)
+    (operandsAnswer bs g))
+
+-- Output o is one of the wires.
+unfoldable pub outputAnswer : List ℕ → ℕ → Answer
+outputAnswer bs o = checkAt (ltb (outputAt bs o) (wires bs)) 10 (outputPlace bs o) (answer 0)
+
+-- The answer to a circuit's bytes: the head, the gates in order, the outputs in order.
+unfoldable pub answerOf : List ℕ → Answer
+answerOf bs = orElse (headAnswer bs) (orElse (first (gateAnswer bs) 0 (gates bs)) (first (outputAnswer bs) 0 (outputs bs)))

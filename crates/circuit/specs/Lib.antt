@@ -1,0 +1,4 @@
+pub mod Kinds
+pub mod Form
+pub mod Valid
+pub mod Plain

@@ -1,0 +1,230 @@
+// Reading a circuit: the answer to its bytes.
+use crate::fields::byte;
+use crate::fields::field;
+use crate::kinds::operands;
+use params::Answer;
+ghost use mathlib.Core.Path.{_≡_};
+ghost use Prim.Native.Nat.{_≤_, _<_};
+ghost use Rattle.circuit.specs.Form.{gates, outputs, operandGood, countsAnswer, headAnswer};
+ghost use Rattle.circuit.specs.Form.{operandsAnswer, gateAnswer, outputAnswer, first, answerOf};
+
+// The counts in order, then the length.
+fn counts(bytes: &[u8]) -> Answer
+    ensures { λ r. ⌜ r ≡ countsAnswer (now (bytes .entry)) ⌝ }
+{
+    let i = field(bytes, 5);
+    let g = field(bytes, 7);
+    let o = field(bytes, 9);
+    let whole = 11 + 8 * g + 2 * o;
+    if 256 < i {
+        return Answer {
+            number: 8,
+            place: 5,
+        };
+    }
+    if 1024 < g {
+        return Answer {
+            number: 8,
+            place: 7,
+        };
+    }
+    if o < 1 {
+        return Answer {
+            number: 8,
+            place: 9,
+        };
+    }
+    if 64 < o {
+        return Answer {
+            number: 8,
+            place: 9,
+        };
+    }
+    if bytes.len() != whole {
+        return Answer {
+            number: 8,
+            place: 11,
+        };
+    }
+    Answer {
+        number: 0,
+        place: 0,
+    }
+}
+
+// The shortest length, the mark, the version, and the counts.
+fn head(bytes: &[u8]) -> Answer
+    ensures { λ r. ⌜ r ≡ headAnswer (now (bytes .entry)) ⌝ }
+{
+    if bytes.len() < 11 {
+        return Answer {
+            number: 8,
+            place: 0,
+        };
+    }
+    if bytes[0] != 69 {
+        return Answer {
+            number: 6,
+            place: 0,
+        };
+    }
+    if bytes[1] != 71 {
+        return Answer {
+            number: 6,
+            place: 0,
+        };
+    }
+    if bytes[2] != 76 {
+        return Answer {
+            number: 6,
+            place: 0,
+        };
+    }
+    let version = field(bytes, 3);
+    if version != 1 {
+        return Answer {
+            number: 7,
+            place: 3,
+        };
+    }
+    counts(bytes)
+}
+
+// Operand x of gate g.
+fn operand_good(bytes: &[u8], g: usize, x: usize) -> bool
+    requires { ⌜ (g < 65536) × (x < 3) ⌝ }
+    ensures { λ r. ⌜ r ≡ operandGood (now (bytes .entry)) g x ⌝ }
+{
+    let at = 11 + 8 * g;
+    let needed = operands(byte(bytes, at));
+    let value = field(bytes, at + 2 + 2 * x);
+    if x < needed {
+        let own = field(bytes, 5) + g;
+        return value < own;
+    }
+    value == 0
+}
+
+// The operands of gate g, in order.
+fn gate_operands(bytes: &[u8], g: usize) -> Answer
+    requires { ⌜ g < 65536 ⌝ }
+    ensures { λ r. ⌜ r ≡ operandsAnswer (now (bytes .entry)) g ⌝ }
+{
+    let at = 11 + 8 * g;
+    let place = at as u32;
+    if !operand_good(bytes, g, 0) {
+        return Answer {
+            number: 9,
+            place: place + 2,
+        };
+    }
+    if !operand_good(bytes, g, 1) {
+        return Answer {
+            number: 9,
+            place: place + 4,
+        };
+    }
+    if !operand_good(bytes, g, 2) {
+        return Answer {
+            number: 9,
+            place: place + 6,
+        };
+    }
+    Answer {
+        number: 0,
+        place: 0,
+    }
+}
+
+// Gate g, field by field.
+fn gate(bytes: &[u8], g: usize) -> Answer
+    requires { ⌜ g < 65536 ⌝ }
+    ensures { λ r. ⌜ r ≡ gateAnswer (now (bytes .entry)) g ⌝ }
+{
+    let at = 11 + 8 * g;
+    let place = at as u32;
+    let kind = byte(bytes, at);
+    if 13 < kind {
+        return Answer { number: 9, place };
+    }
+    let zero = byte(bytes, at + 1);
+    if zero != 0 {
+        return Answer {
+            number: 9,
+            place: place + 1,
+        };
+    }
+    gate_operands(bytes, g)
+}
+
+// Output o.
+fn output(bytes: &[u8], o: usize) -> Answer
+    requires { ⌜ o < 65536 ⌝ }
+    ensures { λ r. ⌜ r ≡ outputAnswer (now (bytes .entry)) o ⌝ }
+{
+    let gates = field(bytes, 7);
+    let at = 11 + 8 * gates + 2 * o;
+    let wires = field(bytes, 5) + gates;
+    let wire = field(bytes, at);
+    if wire < wires {
+        return Answer {
+            number: 0,
+            place: 0,
+        };
+    }
+    let place = at as u32;
+    Answer { number: 10, place }
+}
+
+// The first gate that is refused.
+fn all_gates(bytes: &[u8]) -> Answer
+    ensures { λ r. ⌜ r ≡ first (gateAnswer (now (bytes .entry))) 0 (gates (now (bytes .entry))) ⌝ }
+{
+    let n = field(bytes, 7);
+    let mut g = 0;
+    while g < n {
+        let a = gate(bytes, g);
+        if a.number != 0 {
+            return a;
+        }
+        g += 1;
+    }
+    Answer {
+        number: 0,
+        place: 0,
+    }
+}
+
+// The first output that is refused.
+fn all_outputs(bytes: &[u8]) -> Answer
+    ensures { λ r. ⌜ r ≡ first (outputAnswer (now (bytes .entry))) 0 (outputs (now (bytes .entry))) ⌝ }
+{
+    let n = field(bytes, 9);
+    let mut o = 0;
+    while o < n {
+        let a = output(bytes, o);
+        if a.number != 0 {
+            return a;
+        }
+        o += 1;
+    }
+    Answer {
+        number: 0,
+        place: 0,
+    }
+}
+
+// The answer to a circuit's bytes: 6 to 10 with the place of the first field at fault, or done.
+pub fn check(bytes: &[u8]) -> Answer
+    ensures { λ r. ⌜ r ≡ answerOf (now (bytes .entry)) ⌝ }
+{
+    let a = head(bytes);
+    if a.number != 0 {
+        return a;
+    }
+    let b = all_gates(bytes);
+    if b.number != 0 {
+        return b;
+    }
+    all_outputs(bytes)
+}

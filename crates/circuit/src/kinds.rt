@@ -1,0 +1,69 @@
+// The kinds of gates, as tables: what specs/Kinds.antt gives of each.
+ghost use mathlib.Core.Path.{_≡_};
+ghost use Prim.Native.Nat.{_^_, _≤_};
+ghost use Rattle.circuit.specs.Kinds.{kindOf};
+ghost use Rattle.circuit.specs.Plain.{meaningOf};
+
+// The operands that each kind needs.
+const OPERANDS: [u8; 14] = [0, 0, 1, 2, 2, 2, 2, 2, 2, 2, 2, 2, 2, 3];
+
+// The work of each kind.
+const WORK: [u8; 14] = [0, 0, 0, 1, 1, 1, 1, 1, 1, 1, 1, 1, 1, 1];
+
+// The truth table of each kind: bit a + 2b + 4c is the bit for operands a, b and c.
+const TRUTH: [u8; 14] = [
+    0, // false
+    255, // true
+    85, // not
+    136, // and
+    238, // or
+    119, // nand
+    17, // nor
+    102, // xor
+    153, // xnor
+    68, // and_ny
+    34, // and_yn
+    221, // or_ny
+    187, // or_yn
+    216, // mux
+];
+
+// How many operands a gate of this kind needs.
+pub(crate) fn operands(kind: usize) -> usize
+    ensures { λ r. ⌜ r ≡ kindOf kind .operands ⌝ }
+{
+    if 13 < kind {
+        return 0;
+    }
+    OPERANDS[kind] as usize
+}
+
+// The work of a gate of this kind.
+pub(crate) fn work_of(kind: usize) -> u32
+    ensures { λ r. ⌜ r ≡ kindOf kind .work ⌝ }
+    ensures { λ r. ⌜ r ≤ 1 ⌝ }
+{
+    if 13 < kind {
+        return 0;
+    }
+    WORK[kind] as u32
+}
+
+// 2^i.
+fn power(i: u32) -> u8
+    requires { ⌜ i ≤ 7 ⌝ }
+    ensures { λ r. ⌜ r ≡ 2 ^ i ⌝ }
+{
+    1u8 << i
+}
+
+// The bit of a gate of this kind on the bits of its operands.
+pub(crate) fn meaning(kind: usize, a: u8, b: u8, c: u8) -> u8
+    ensures { λ r. ⌜ r ≡ meaningOf kind a b c ⌝ }
+{
+    if 13 < kind {
+        return 0;
+    }
+    let i = ((a != 0) as u32) + 2 * ((b != 0) as u32) + 4 * ((c != 0) as u32);
+    TRUTH[kind] / power(i) % 2
+}

@@ -1,0 +1,5 @@
+pub mod Digits
+pub mod Spliced
+pub mod Pieces
+pub mod Texts
+pub mod Determined

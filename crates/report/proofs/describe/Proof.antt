@@ -1,0 +1,71 @@
+-- `report::describe` meets its contract: the text is made in an array, and copied where there is room for it.
+-- Assumes nothing.
+use mathlib.Core.Path.{_≡_, sym, ap, _∙_}
+use mathlib.Core.List.{List}
+use Prim.Native.Nat.{ℕ, _≤_, _<_}
+use native.Mathlib.Omega.{arith}
+use lib.ListN.{length, take, replicate}
+use lib.Seq.{length-take-le}
+use denote.Ref.{now}
+use borrow.Author.Needs.{needs}
+use Rattle.params.specs.Refusal.{answer}
+use Rattle.report.specs.Splice.{splice}
+use Rattle.report.specs.Text.{textOf, described}
+use Rattle.report.proofs.Spliced.{splice-front}
+use Rattle.report.proofs.Texts.{answer-short, answer-fits, out-short, out-fits, front-text}
+use Rattle.report.proofs.describe.Statement.{statement}
+use Rattle.report.proofs.describe.Tie as tie
+
+slice-aggregate-put-text : tie.Need-slice-aggregate-put-text
+slice-aggregate-put-text c = search needs
+
+put-text-requires : tie.Need-put-text-requires
+put-text-requires c κs = search needs
+
+returns : tie.Need-returns
+returns c =
+    let a = c .before .before .before .before .before .before .args in
+    let b = now (a .bytes) in
+    let e = c .before .before .put-text .ensures .0 .0 in
+    let h : length (now (a .out)) < length (textOf b) = omega arith in
+    (answer-short b (length (now (a .out))) h, out-short b (now (a .out)) h)
+
+array-share-prefix-text : tie.Need-array-share-prefix-text
+array-share-prefix-text c = search needs
+
+slice-aggregate-put : tie.Need-slice-aggregate-put
+slice-aggregate-put c = let k = c .before .before .before .before .put-text .kept .1 .0 in let l = c .before .before .before .before .put-text .ensures .0 .1 in sym (length-take-le (c .before .before .before .before .put-text .result) (c .before .before .before .before .put-text .last .1 .0) (omega arith))
+
+put-requires : tie.Need-put-requires
+put-requires c κs =
+    let k = c .before .before .before .before .put-text .kept .1 .0 in
+    let l = c .before .before .before .before .put-text .ensures .0 .1 in
+    let t = length-take-le (c .before .before .before .before .put-text .result) (c .before .before .before .before .put-text .last .1 .0) (omega arith) in
+    omega arith
+
+same-length : tie.Need-same-length
+same-length c = search needs
+
+returns-2 : tie.Need-returns-2
+returns-2 c =
+    let a = c .before .before .before .before .before .before .before .before .before .before .before .args in
+    let b = now (a .bytes) in
+    let o = now (a .out) in
+    let p = c .before .before .before .before .before .before .before .put-text .ensures in
+    let e = p .0 .0 in
+    let h : length (textOf b) ≤ length o = omega arith in
+    let t = front-text (replicate 1280 0) (textOf b) (p .1) e in
+    (ap (described (answer 0)) e ∙ answer-fits b (length o) h, c .before .before .put .ensures .1 ∙ ap (λ (x : List ℕ). splice o 0 x) t ∙ splice-front o (textOf b) ∙ out-fits b o h)
+
+pub describe-spec : {M : Type 1} → statement M
+describe-spec =
+    tie.close
+    (tie.spec
+    slice-aggregate-put-text
+    put-text-requires
+    returns
+    array-share-prefix-text
+    slice-aggregate-put
+    put-requires
+    same-length
+    returns-2)
