@@ -1,0 +1,79 @@
+//! The library's routines by its C interface; a refusal stops the benchmark.
+
+macro_rules! declare {
+    ($($(#[$m:meta])* fn $f:ident($($a:ident: $t:ty),*);)*) => {
+        unsafe extern "C" {
+            $($(#[$m])* fn $f(n: u32, nbit: u32, bgbit: u32, l: u32, basebit: u32, t: u32, $($a: $t),*) -> u64;)*
+        }
+    };
+}
+
+type In = *const u32;
+type Out = *mut u32;
+
+declare! {
+    #[cfg(group_product)]
+    fn egl_product_poly_mul(a: In, a_len: usize, b: In, b_len: usize, out: Out, out_len: usize);
+    #[cfg(group_product)]
+    fn egl_product_poly_mul_add(a: In, a_len: usize, b: In, b_len: usize, out: Out, out_len: usize);
+    #[cfg(group_tlwe)]
+    fn egl_tlwe_encrypt_bit_lv0(bit: u32, masks: In, masks_len: usize, noise: u32, key: In, key_len: usize, out: Out, out_len: usize);
+    #[cfg(group_tlwe)]
+    fn egl_tlwe_decrypt_bit_lv0(c: In, c_len: usize, key: In, key_len: usize, value: *mut u8, value_len: usize);
+    #[cfg(group_trgsw)]
+    fn egl_trgsw_identity_key_switching(src: In, src_len: usize, key: In, key_len: usize, out: Out, out_len: usize);
+    #[cfg(group_trgsw)]
+    fn egl_trgsw_external_product(rows: In, rows_len: usize, a: In, a_len: usize, b: In, b_len: usize, x: Out, x_len: usize, y: Out, y_len: usize);
+    #[cfg(group_trgsw)]
+    fn egl_trgsw_blind_rotate(src: In, src_len: usize, key: In, key_len: usize, x: Out, x_len: usize, y: Out, y_len: usize);
+    #[cfg(group_gates)]
+    fn egl_gates_nand(a: In, a_len: usize, b: In, b_len: usize, s: In, s_len: usize, k: In, k_len: usize, out: Out, out_len: usize);
+}
+
+macro_rules! done {
+    ($p:ident, $f:ident($($a:expr),*)) => {
+        assert_eq!(unsafe { $f($p[0], $p[1], $p[2], $p[3], $p[4], $p[5], $($a),*) }, 0, "the library refused")
+    };
+}
+
+#[cfg(group_product)]
+pub fn poly_mul(p: &[u32; 6], a: &[u32], b: &[u32], out: &mut [u32]) {
+    done!(p, egl_product_poly_mul(a.as_ptr(), a.len(), b.as_ptr(), b.len(), out.as_mut_ptr(), out.len()))
+}
+
+#[cfg(group_product)]
+pub fn poly_mul_add(p: &[u32; 6], a: &[u32], b: &[u32], out: &mut [u32]) {
+    done!(p, egl_product_poly_mul_add(a.as_ptr(), a.len(), b.as_ptr(), b.len(), out.as_mut_ptr(), out.len()))
+}
+
+#[cfg(group_tlwe)]
+pub fn encrypt_bit(p: &[u32; 6], bit: u32, masks: &[u32], noise: u32, key: &[u32], out: &mut [u32]) {
+    done!(p, egl_tlwe_encrypt_bit_lv0(bit, masks.as_ptr(), masks.len(), noise, key.as_ptr(), key.len(), out.as_mut_ptr(), out.len()))
+}
+
+#[cfg(group_tlwe)]
+pub fn decrypt_bit(p: &[u32; 6], c: &[u32], key: &[u32]) -> bool {
+    let mut value = 0u8;
+    done!(p, egl_tlwe_decrypt_bit_lv0(c.as_ptr(), c.len(), key.as_ptr(), key.len(), &mut value, 1));
+    value != 0
+}
+
+#[cfg(group_trgsw)]
+pub fn switch(p: &[u32; 6], src: &[u32], key: &[u32], out: &mut [u32]) {
+    done!(p, egl_trgsw_identity_key_switching(src.as_ptr(), src.len(), key.as_ptr(), key.len(), out.as_mut_ptr(), out.len()))
+}
+
+#[cfg(group_trgsw)]
+pub fn external(p: &[u32; 6], rows: &[u32], a: &[u32], b: &[u32], x: &mut [u32], y: &mut [u32]) {
+    done!(p, egl_trgsw_external_product(rows.as_ptr(), rows.len(), a.as_ptr(), a.len(), b.as_ptr(), b.len(), x.as_mut_ptr(), x.len(), y.as_mut_ptr(), y.len()))
+}
+
+#[cfg(group_trgsw)]
+pub fn blind_rotate(p: &[u32; 6], src: &[u32], key: &[u32], x: &mut [u32], y: &mut [u32]) {
+    done!(p, egl_trgsw_blind_rotate(src.as_ptr(), src.len(), key.as_ptr(), key.len(), x.as_mut_ptr(), x.len(), y.as_mut_ptr(), y.len()))
+}
+
+#[cfg(group_gates)]
+pub fn nand(p: &[u32; 6], a: &[u32], b: &[u32], s: &[u32], k: &[u32], out: &mut [u32]) {
+    done!(p, egl_gates_nand(a.as_ptr(), a.len(), b.as_ptr(), b.len(), s.as_ptr(), s.len(), k.as_ptr(), k.len(), out.as_mut_ptr(), out.len()))
+}

@@ -1,0 +1,129 @@
+//! The proved library beside plain Rust and a transform in doubles, as ratios in one run.
+
+mod library;
+mod measure;
+mod plain;
+mod transform;
+
+use measure::{table, way};
+use std::hint::black_box;
+
+/// The published 128-bit set: n, NBIT, BGBIT, L, BASEBIT, T.
+const SET: [u32; 6] = [700, 10, 6, 3, 2, 9];
+const N: usize = 1024;
+
+/// Words to compute with: splitmix64.
+fn words(len: usize, seed: u64) -> Vec<u32> {
+    let mut state = seed;
+    let mut next = || {
+        state = state.wrapping_add(0x9E37_79B9_7F4A_7C15);
+        let z = (state ^ (state >> 30)).wrapping_mul(0xBF58_476D_1CE4_E5B9);
+        let z = (z ^ (z >> 27)).wrapping_mul(0x94D0_49BB_1331_11EB);
+        (z ^ (z >> 31)) as u32
+    };
+    (0..len).map(|_| next()).collect()
+}
+
+#[cfg(group_product)]
+fn products() {
+    let (a, b) = (words(N, 1), words(N, 2));
+    let digits: Vec<u32> = a.iter().map(|x| (x & 63).wrapping_sub(32)).collect();
+    let turn = transform::Transform::new(N);
+    let (mut o1, mut o2, mut o3, mut o4, mut o5) = (vec![0; N], vec![0; N], vec![0; N], vec![0; N], vec![0; N]);
+    library::poly_mul(&SET, &a, &b, &mut o1);
+    plain::product_doubled(&a, &b, &mut o2);
+    assert!(o1 == o2, "the two products differ");
+    turn.product(&digits, &b, &mut o4);
+    plain::product_doubled(&digits, &b, &mut o2);
+    assert!(o4 == o2, "the transform's product differs on digits");
+    let ways = vec![
+        way("library, poly_mul", || library::poly_mul(black_box(&SET), black_box(&a), black_box(&b), &mut o1)),
+        way("library, poly_mul_add", || library::poly_mul_add(black_box(&SET), black_box(&a), black_box(&b), &mut o5)),
+        way("plain Rust, doubled row", || plain::product_doubled(black_box(&a), black_box(&b), &mut o2)),
+        way("plain Rust, two loops", || plain::product_two_loops(black_box(&a), black_box(&b), &mut o3)),
+        way("transform in doubles", || turn.product(black_box(&digits), black_box(&b), &mut o4)),
+    ];
+    table("Product at N 1,024; bar: library at most 1.05 of plain Rust", ways, 2000, "plain Rust, doubled row");
+}
+
+#[cfg(group_tlwe)]
+fn ciphertexts() {
+    let p = [1100, 10, 6, 3, 2, 9];
+    let key: Vec<u32> = words(1100, 3).iter().map(|x| x >> 31).collect();
+    let masks = words(1100, 4);
+    let (mut o1, mut o2, mut o3) = (vec![0; 1101], vec![0; 1101], vec![0; 1101]);
+    library::encrypt_bit(&p, 1, &masks, 5, &key, &mut o1);
+    plain::encrypt(1 << 29, &masks, 5, &key, &mut o2);
+    assert!(o1 == o2, "the two ciphertexts differ");
+    let c = o1.clone();
+    // many calls a turn: one is too short for the clock
+    const CALLS: usize = 200;
+    let ways = vec![
+        way("library, encrypt a bit, 200 calls", || (0..CALLS).for_each(|_| library::encrypt_bit(black_box(&p), 1, black_box(&masks), 5, black_box(&key), &mut o1))),
+        way("plain Rust", || (0..CALLS).for_each(|_| plain::encrypt(black_box(1 << 29), black_box(&masks), 5, black_box(&key), black_box(&mut o2)))),
+        way("plain Rust with the checks", || {
+            (0..CALLS).for_each(|_| assert!(plain::encrypt_checked(black_box(1 << 29), black_box(&masks), 5, black_box(&key), black_box(&mut o3))))
+        }),
+    ];
+    table("Encryption at n 1,100; bar: library at most 1.2 of plain Rust", ways, 1000, "plain Rust");
+    let ways = vec![
+        way("library, decrypt a bit, 200 calls", || (0..CALLS).for_each(|_| assert!(library::decrypt_bit(black_box(&p), black_box(&c), black_box(&key))))),
+        way("plain Rust", || (0..CALLS).for_each(|_| assert!(plain::decrypt(black_box(&c), black_box(&key))))),
+        way("plain Rust with the checks", || {
+            (0..CALLS).for_each(|_| assert!(plain::decrypt_checked(black_box(&c), black_box(&key)) == Some(true)))
+        }),
+    ];
+    table("Decryption at n 1,100; bar: library at most 1.2 of plain Rust", ways, 1000, "plain Rust");
+}
+
+#[cfg(group_trgsw)]
+fn rotations() {
+    let n = SET[0] as usize;
+    let (rows, a, b) = (words(12 * N, 6), words(N, 7), words(N, 8));
+    let (key, src) = (words(n * 12 * N, 9), words(n + 1, 10));
+    let (switching, long) = (words(4 * 9 * N * (n + 1), 11), words(N + 1, 12));
+    let (mut x, mut y, mut o) = (vec![0; N], vec![0; N], vec![0; N]);
+    let (mut s1, mut s2) = (vec![0; n + 1], vec![0; n + 1]);
+    library::switch(&SET, &long, &switching, &mut s1);
+    plain::switch(&long, &switching, n, SET[4], SET[5], &mut s2);
+    assert!(s1 == s2, "the two switchings differ");
+    let ways = vec![
+        way("library, key switching", || library::switch(black_box(&SET), black_box(&long), black_box(&switching), &mut s1)),
+        way("plain Rust", || plain::switch(black_box(&long), black_box(&switching), n, SET[4], SET[5], black_box(&mut s2))),
+    ];
+    table("Key switching at the 128-bit set; bar: library at most 1.2 of plain Rust", ways, 40, "plain Rust");
+
+    let ways = vec![
+        way("twelve products", || (0..12).for_each(|_| library::poly_mul_add(black_box(&SET), black_box(&a), black_box(&b), &mut o))),
+        way("external product", || library::external(black_box(&SET), black_box(&rows), black_box(&a), black_box(&b), &mut x, &mut y)),
+    ];
+    table("External product at the 128-bit set", ways, 200, "twelve products");
+
+    let (mut x, mut y, mut o, mut out) = (vec![0; N], vec![0; N], vec![0; N], vec![0; n + 1]);
+    let (c, d) = (words(n + 1, 13), words(n + 1, 14));
+    let mut ways = vec![
+        way("8,400 products", || (0..8400).for_each(|_| library::poly_mul_add(black_box(&SET), black_box(&a), black_box(&b), &mut o))),
+        way("blind rotation", || library::blind_rotate(black_box(&SET), black_box(&src), black_box(&key), &mut x, &mut y)),
+    ];
+    #[cfg(group_gates)]
+    ways.push(way("nand", || library::nand(black_box(&SET), black_box(&c), black_box(&d), black_box(&switching), black_box(&key), &mut out)));
+    table("Blind rotation at the 128-bit set; bar: at most 1.15 of its products (a gate 1.2)", ways, 3, "8,400 products");
+}
+
+fn main() {
+    // a part may be named on the command line, so that one table can be had alone
+    let asked: Vec<String> = std::env::args().skip(1).collect();
+    let wanted = |part: &str| asked.is_empty() || asked.iter().any(|a| a == part);
+    #[cfg(group_product)]
+    if wanted("product") {
+        products();
+    }
+    #[cfg(group_tlwe)]
+    if wanted("tlwe") {
+        ciphertexts();
+    }
+    #[cfg(group_trgsw)]
+    if wanted("trgsw") {
+        rotations();
+    }
+}

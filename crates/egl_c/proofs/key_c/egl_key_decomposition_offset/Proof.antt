@@ -1,0 +1,21 @@
+-- `egl_key_decomposition_offset` meets its contract: it packs what the routine answers.
+-- Assumes nothing.
+use mathlib.Core.Path.{_∙_, ap}
+use Rattle.key.specs.declared.Offset.{Offset}
+use Rattle.egl_c.specs.Packed.{packedWith}
+use borrow.Author.Needs.{needs}
+use Rattle.egl_c.proofs.key_c.egl_key_decomposition_offset.Statement.{statement}
+use Rattle.egl_c.proofs.key_c.egl_key_decomposition_offset.Tie as tie
+
+decomposition-offset-requires : tie.Need-decomposition-offset-requires
+decomposition-offset-requires c κs = search needs
+
+pack-with-requires : tie.Need-pack-with-requires
+pack-with-requires c κs = search needs
+
+returns : tie.Need-returns
+returns c = c .pack-with .ensures ∙ ap (λ (x : Offset). packedWith (x .answer) (x .value)) (c .before .before .decomposition-offset .ensures)
+
+pub egl-key-decomposition-offset-spec : {M : Type 1} → statement M
+egl-key-decomposition-offset-spec =
+    tie.close (tie.spec decomposition-offset-requires pack-with-requires returns)

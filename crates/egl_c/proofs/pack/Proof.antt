@@ -1,0 +1,27 @@
+-- `egl_c::pack` meets its contract: both halves fit, and Q is 2^32.
+-- Assumes nothing.
+use native.Mathlib.Omega.{arith}
+use Rattle.ring.specs.Word.{Q}
+use Rattle.egl_c.specs.Packed.{packed}
+use borrow.Author.Needs.{needs}
+use Rattle.egl_c.proofs.pack.Statement.{statement}
+use Rattle.egl_c.proofs.pack.Tie as tie
+
+cast-result : tie.Need-cast-result
+cast-result c = search needs
+
+cast-result-2 : tie.Need-cast-result-2
+cast-result-2 c = search needs
+
+mul-result : tie.Need-mul-result
+mul-result c = search needs
+
+add-result : tie.Need-add-result
+add-result c = search needs
+
+returns : tie.Need-returns
+unfolding packed Q
+returns c = omega arith
+
+pub pack-spec : {M : Type 1} → statement M
+pack-spec = tie.close (tie.spec cast-result cast-result-2 mul-result add-result returns)

@@ -1,0 +1,24 @@
+-- `egl_c::pack_with` meets its contract: both halves fit, and Q is 2^32.
+-- Assumes nothing.
+use native.Mathlib.Omega.{arith}
+use Rattle.ring.specs.Word.{Q}
+use Rattle.egl_c.specs.Packed.{packedWith}
+use borrow.Author.Needs.{needs}
+use Rattle.egl_c.proofs.pack_with.Statement.{statement}
+use Rattle.egl_c.proofs.pack_with.Tie as tie
+
+cast-result : tie.Need-cast-result
+cast-result c = search needs
+
+mul-result : tie.Need-mul-result
+mul-result c = search needs
+
+add-result : tie.Need-add-result
+add-result c = search needs
+
+returns : tie.Need-returns
+unfolding packedWith Q
+returns c = omega arith
+
+pub pack-with-spec : {M : Type 1} → statement M
+pack-with-spec = tie.close (tie.spec cast-result mul-result add-result returns)

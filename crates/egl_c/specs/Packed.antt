@@ -1,0 +1,28 @@
+-- How an answer crosses into C: one number of 64 bits.
+use mathlib.Core.Bool.{Bool, true, false, not}
+use Prim.Native.Nat.{ℕ, _+_, _*_}
+use lib.Dec.{eqb}
+use Rattle.ring.specs.Word.{Q}
+use Rattle.params.specs.declared.Params.{Params}
+use Rattle.params.specs.declared.Answer.{Answer}
+
+-- The number in the low half, the place in the high half.
+unfoldable pub packed : Answer → ℕ
+packed a = a .number + a .place * Q
+
+-- The number in the low half and a value beside the answer in the high half: for answers that have no place.
+unfoldable pub packedWith : Answer → ℕ → ℕ
+packedWith a value = a .number + value * Q
+
+-- The six numbers, in the order in which every exported function takes them.
+abbrev pub params : ℕ → ℕ → ℕ → ℕ → ℕ → ℕ → Params
+params n nbit bgbit l basebit t = record { n = n; nbit = nbit; bgbit = bgbit; l = l; basebit = basebit; t = t }
+
+-- A bit as C gets it: 0 or 1.
+abbrev pub bitNumber : Bool → ℕ
+bitNumber true = 1
+bitNumber false = 0
+
+-- A bit as C gives it: 0 is false, any other number true.
+abbrev pub isBit : ℕ → Bool
+isBit x = not (eqb x 0)

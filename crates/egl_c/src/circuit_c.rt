@@ -1,0 +1,40 @@
+// Circuits: reading, work, plain run.
+ghost use mathlib.Core.Path.{_≡_};
+ghost use lib.ListN.{length};
+ghost use Rattle.params.specs.Refusal.{ifDone};
+ghost use Rattle.circuit.specs.Form.{answerOf};
+ghost use Rattle.circuit.specs.Plain.{runAnswer, runOut, workAnswer};
+ghost use Rattle.egl_c.specs.Packed.{packed, packedWith};
+use super::pack;
+use super::pack_with;
+
+// Whether the bytes are a circuit, and where they are at fault.
+#[no_mangle]
+pub extern "C" fn egl_circuit_check(bytes: &[u8]) -> u64
+    ensures { λ r. ⌜ r ≡ packed (answerOf (now (bytes .entry))) ⌝ }
+{
+    pack(circuit::check(bytes))
+}
+
+// The work of a circuit, as the value; of a refused one the number and the place.
+#[no_mangle]
+pub extern "C" fn egl_circuit_work(bytes: &[u8]) -> u64
+    ensures { λ r. ⌜ r ≡ ifDone (workAnswer (now (bytes .entry)) .answer .number) (packedWith (workAnswer (now (bytes .entry)) .answer) (workAnswer (now (bytes .entry)) .value)) (packed (workAnswer (now (bytes .entry)) .answer)) ⌝ }
+{
+    let w = circuit::work(bytes);
+    let answer = w.answer;
+    let value = w.value;
+    if answer.number != 0 {
+        return pack(answer);
+    }
+    pack_with(answer, value)
+}
+
+// The outputs of a circuit on plain bits.
+#[no_mangle]
+pub extern "C" fn egl_circuit_run_plain(bytes: &[u8], ins: &[u8], out: &mut [u8]) -> u64
+    ensures said { λ r. ⌜ r ≡ packed (runAnswer (now (bytes .entry)) (length (now (ins .entry))) (length (now (out .entry)))) ⌝ }
+    ensures written { λ r. ⌜ now (out .exit) ≡ runOut (now (bytes .entry)) (now (ins .entry)) (now (out .entry)) ⌝ }
+{
+    pack(circuit::run_plain(bytes, ins, out))
+}

@@ -1,0 +1,166 @@
+// Key material: the offset, the test vector, the switching key and its rows.
+ghost use mathlib.Core.Path.{_≡_};
+ghost use Prim.Native.Nat.{_%_};
+ghost use lib.ListN.{length};
+ghost use Rattle.ring.specs.Word.{Q};
+ghost use Rattle.params.specs.Refusal.{answer, ifDone};
+ghost use Rattle.key.specs.Offset.{offsetOut};
+ghost use Rattle.key.specs.Testvec.{testNumber, testA, testB};
+ghost use Rattle.key.specs.Switching.{rowIndex, lookupNumber};
+ghost use Rattle.key.specs.Generation.{generateNumber, generated};
+ghost use Rattle.egl_c.specs.Packed.{packed, packedWith, params};
+use super::pack;
+use super::pack_with;
+use params::Params;
+
+// The decomposition's offset, as the value.
+#[no_mangle]
+pub extern "C" fn egl_key_decomposition_offset(
+    n: u32,
+    nbit: u32,
+    bgbit: u32,
+    l: u32,
+    basebit: u32,
+    t: u32,
+) -> u64
+    ensures { λ r. ⌜ r ≡ packedWith (offsetOut (params n nbit bgbit l basebit t) .answer) (offsetOut (params n nbit bgbit l basebit t) .value) ⌝ }
+{
+    let o = key::decomposition_offset(Params {
+        n,
+        nbit,
+        bgbit,
+        l,
+        basebit,
+        t,
+    });
+    let answer = o.answer;
+    let value = o.value;
+    pack_with(answer, value)
+}
+
+// `gen_testvec`: a zero, b an eighth of a turn in every word. Refusals: 1, 2.
+#[no_mangle]
+pub extern "C" fn egl_key_gen_testvec(
+    n: u32,
+    nbit: u32,
+    bgbit: u32,
+    l: u32,
+    basebit: u32,
+    t: u32,
+    a: &mut [u32],
+    b: &mut [u32],
+) -> u64
+    ensures said { λ r. ⌜ r ≡ packed (answer (testNumber (params n nbit bgbit l basebit t) (length (now (a .entry))) (length (now (b .entry))))) ⌝ }
+    ensures first { λ r. ⌜ now (a .exit) ≡ ifDone (testNumber (params n nbit bgbit l basebit t) (length (now (a .entry))) (length (now (b .entry)))) (testA (params n nbit bgbit l basebit t)) (now (a .entry)) ⌝ }
+    ensures second { λ r. ⌜ now (b .exit) ≡ ifDone (testNumber (params n nbit bgbit l basebit t) (length (now (a .entry))) (length (now (b .entry)))) (testB (params n nbit bgbit l basebit t)) (now (b .entry)) ⌝ }
+{
+    pack(key::gen_testvec(
+        Params {
+            n,
+            nbit,
+            bgbit,
+            l,
+            basebit,
+            t,
+        },
+        a,
+        b,
+    ))
+}
+
+// `gen_key_switching_key` with lent masks and noise, drawn in row order by the rows with k from 1. Refusals: 1, 2, 4.
+#[no_mangle]
+pub extern "C" fn egl_key_gen_key_switching_key(
+    n: u32,
+    nbit: u32,
+    bgbit: u32,
+    l: u32,
+    basebit: u32,
+    t: u32,
+    key_lv0: &[u32],
+    key_lv1: &[u32],
+    masks: &[u32],
+    noise: &[u32],
+    out: &mut [u32],
+) -> u64
+    ensures said { λ r. ⌜ r ≡ packed (answer (generateNumber (params n nbit bgbit l basebit t) (now («key_lv0» .entry)) (now («key_lv1» .entry)) (length (now (masks .entry))) (length (now (noise .entry))) (length (now (out .entry))))) ⌝ }
+    ensures written { λ r. ⌜ now (out .exit) ≡ ifDone (generateNumber (params n nbit bgbit l basebit t) (now («key_lv0» .entry)) (now («key_lv1» .entry)) (length (now (masks .entry))) (length (now (noise .entry))) (length (now (out .entry)))) (generated (params n nbit bgbit l basebit t) (now («key_lv0» .entry)) (now («key_lv1» .entry)) (now (masks .entry)) (now (noise .entry))) (now (out .entry)) ⌝ }
+{
+    pack(key::gen_key_switching_key(
+        Params {
+            n,
+            nbit,
+            bgbit,
+            l,
+            basebit,
+            t,
+        },
+        key_lv0,
+        key_lv1,
+        masks,
+        noise,
+        out,
+    ))
+}
+
+// What a lookup of row (i, j, k) in a switching key of so many words is answered. Refusals: 1, 2, 3.
+#[no_mangle]
+pub extern "C" fn egl_key_switching_row_answer(
+    n: u32,
+    nbit: u32,
+    bgbit: u32,
+    l: u32,
+    basebit: u32,
+    t: u32,
+    words: usize,
+    i: usize,
+    j: usize,
+    k: usize,
+) -> u64
+    ensures { λ r. ⌜ r ≡ packed (answer (lookupNumber (params n nbit bgbit l basebit t) words i j k)) ⌝ }
+{
+    pack(key::switching_row_answer(
+        Params {
+            n,
+            nbit,
+            bgbit,
+            l,
+            basebit,
+            t,
+        },
+        words,
+        i,
+        j,
+        k,
+    ))
+}
+
+// The place of row (i, j, k) among the rows of the switching key: its first word stands at (n + 1) times this.
+#[no_mangle]
+pub extern "C" fn egl_key_row_index(
+    n: u32,
+    nbit: u32,
+    bgbit: u32,
+    l: u32,
+    basebit: u32,
+    t: u32,
+    i: u32,
+    j: u32,
+    k: u32,
+) -> u32
+    ensures { λ r. ⌜ r ≡ rowIndex (params n nbit bgbit l basebit t) i j k % Q ⌝ }
+{
+    key::row_index(
+        Params {
+            n,
+            nbit,
+            bgbit,
+            l,
+            basebit,
+            t,
+        },
+        i,
+        j,
+        k,
+    )
+}

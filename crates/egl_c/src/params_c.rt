@@ -1,0 +1,29 @@
+// The parameters: their ranges, the length of every lent slice, and the published sets.
+ghost use mathlib.Core.Path.{_≡_};
+ghost use Rattle.params.specs.Refusal.{answer};
+ghost use Rattle.params.specs.Ranges.{paramsNumber};
+ghost use Rattle.egl_c.specs.Packed.{packed, params};
+use super::pack;
+use params::Params;
+
+// Refusal 1 where a number is outside its range.
+#[no_mangle]
+pub extern "C" fn egl_params_check(
+    n: u32,
+    nbit: u32,
+    bgbit: u32,
+    l: u32,
+    basebit: u32,
+    t: u32,
+) -> u64
+    ensures { λ r. ⌜ r ≡ packed (answer (paramsNumber (params n nbit bgbit l basebit t))) ⌝ }
+{
+    pack(params::check(Params {
+        n,
+        nbit,
+        bgbit,
+        l,
+        basebit,
+        t,
+    }))
+}

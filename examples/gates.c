@@ -1,0 +1,95 @@
+/* Two encrypted bits through every gate: makes keys from the system's random source, encrypts, evaluates, decrypts and prints the truth tables.
+ *
+ *   gates [128]     a practice set by default; with 128 the published 128-bit set, which takes minutes
+ *
+ * The noise here is a few units of 2^-32 for the practice set, and for the 128-bit set a sum of uniform numbers with about the published spread.
+ * A product draws its masks and noise from a generator fit for the purpose. */
+#include "egl.h"
+
+#include <stdio.h>
+#include <stdlib.h>
+#include <string.h>
+#include <time.h>
+
+struct set { uint32_t n, nbit, bgbit, l, basebit, t, wide0, wide1; };
+static struct set set = {20, 7, 7, 3, 3, 5, 3, 3};
+
+#define P set.n, set.nbit, set.bgbit, set.l, set.basebit, set.t
+
+static FILE *source;
+
+static void draw(uint32_t *to, size_t count) {
+    if (fread(to, 4, count, source) != count) exit(3);
+}
+
+/* a word of noise: about 2^wide units of 2^-32 */
+static uint32_t noise(uint32_t wide) {
+    uint32_t x[8], sum = 0;
+    draw(x, 8);
+    for (int i = 0; i < 8; i++) sum += (x[i] >> (31 - wide)) - (1u << wide);
+    return sum;
+}
+
+static uint32_t *words(size_t count) {
+    uint32_t *w = malloc(count * 4);
+    if (!w) exit(3);
+    return w;
+}
+
+static void done(const char *what, egl_answer a) {
+    if (EGL_NUMBER(a) != 0) {
+        printf("%s: refused %u at %u\n", what, EGL_NUMBER(a), EGL_PLACE(a));
+        exit(1);
+    }
+}
+
+typedef egl_answer gate(EGL_PARAMS, const uint32_t *, size_t, const uint32_t *, size_t, const uint32_t *, size_t, const uint32_t *, size_t, uint32_t *, size_t);
+
+static const struct { const char *name; gate *run; unsigned meant; } gates[] = {
+    {"nand", egl_gates_nand, 0x7}, {"or", egl_gates_or, 0xE}, {"and", egl_gates_and, 0x8}, {"nor", egl_gates_nor, 0x1},
+    {"and_ny", egl_gates_and_ny, 0x4}, {"and_yn", egl_gates_and_yn, 0x2}, {"or_ny", egl_gates_or_ny, 0xD}, {"or_yn", egl_gates_or_yn, 0xB},
+    {"xor", egl_gates_xor, 0x6}, {"xnor (xor)", egl_gates_xnor, 0x6},
+};
+
+int main(int count, char **args) {
+    if (count > 1 && strcmp(args[1], "128") == 0) set = (struct set){700, 10, 6, 3, 2, 9, 15, 5};
+    source = fopen("/dev/urandom", "rb");
+    if (!source) return 3;
+    const size_t n = set.n, N = (size_t)1 << set.nbit, base = (size_t)1 << set.basebit;
+    const size_t drawing = N * set.t * (base - 1), ksk_len = N * set.t * base * (n + 1), bsk_masks = n * 2 * set.l * N, bsk_len = 2 * bsk_masks;
+    uint32_t *key0 = words(n), *key1 = words(N), *ksk = words(ksk_len), *bsk = words(bsk_len);
+    uint32_t *masks = words(drawing * n > bsk_masks ? drawing * n : bsk_masks), *errors = words(drawing > bsk_masks ? drawing : bsk_masks);
+    draw(key0, n);
+    draw(key1, N);
+    for (size_t i = 0; i < n; i++) key0[i] &= 1;
+    for (size_t i = 0; i < N; i++) key1[i] &= 1;
+    draw(masks, drawing * n);
+    for (size_t i = 0; i < drawing; i++) errors[i] = noise(set.wide0);
+    done("switching key", egl_key_gen_key_switching_key(P, key0, n, key1, N, masks, drawing * n, errors, drawing, ksk, ksk_len));
+    draw(masks, bsk_masks);
+    for (size_t i = 0; i < bsk_masks; i++) errors[i] = noise(set.wide1);
+    done("bootstrapping key", egl_trgsw_gen_bootstrapping_key(P, key0, n, key1, N, masks, bsk_masks, errors, bsk_masks, bsk, bsk_len));
+
+    uint32_t *bit[2] = {words(n + 1), words(n + 1)}, *out = words(n + 1);
+    for (uint32_t b = 0; b < 2; b++) {
+        draw(masks, n);
+        done("encryption", egl_tlwe_encrypt_bit_lv0(P, b, masks, n, noise(set.wide0), key0, n, bit[b], n + 1));
+    }
+    int wrong = 0;
+    clock_t start = clock();
+    printf("%-12s 00 10 01 11\n", "a b");
+    for (size_t g = 0; g < sizeof gates / sizeof *gates; g++) {
+        printf("%-12s", gates[g].name);
+        for (unsigned in = 0; in < 4; in++) {
+            done(gates[g].name, gates[g].run(P, bit[in & 1], n + 1, bit[in >> 1], n + 1, ksk, ksk_len, bsk, bsk_len, out, n + 1));
+            egl_answer got = egl_tlwe_decrypt_bit_lv0(P, out, n + 1, key0, n);
+            done("decryption", got);
+            wrong += EGL_VALUE(got) != (gates[g].meant >> in & 1);
+            printf("  %u", EGL_VALUE(got));
+            fflush(stdout);
+        }
+        printf("\n");
+    }
+    printf("%d of 40 wrong, %.4f s a gate\n", wrong, (double)(clock() - start) / CLOCKS_PER_SEC / 40);
+    return wrong != 0;
+}

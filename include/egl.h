@@ -1,0 +1,232 @@
+/* egl.h: the proved evaluator of encrypted gates, as C sees it. Link libegl_c.a (x86-64 Linux) and the C library's mathematics (-lm).
+ *
+ * Every function takes any numbers and any buffers. It does its work or gives a refusal, and a refused call has written to none of the
+ * memory lent to it. A buffer is a pointer and the number of its elements (not bytes). The pointer must be valid for that many elements,
+ * aligned, and, where it is written to, must not overlap another buffer of the call; with length 0 it may be any pointer but NULL.
+ *
+ * The answer is one number of 64 bits: the refusal in its low half, 0 when the work is done, and the place in its high half (only refusals
+ * 6 to 10, those of circuits, have one). A function that gives a number beside its answer, as a decryption, puts it into the high half instead
+ * (EGL_VALUE); it is 0 beside a refusal. Checks go in the order of the numbers:
+ *   1  a parameter is outside its range
+ *   2  a buffer has not exactly its stated length
+ *   3  rotation amount above 2N, extraction index N or more, or a key row's index outside its range
+ *   4  a secret key word is neither 0 nor 1
+ *   5  message modulus not 2, 4, 8, 16, 32 or 64
+ *   6  circuit: wrong mark      7  circuit: version not 1      8  circuit: length or count
+ *   9  circuit: a gate         10  circuit: an output
+ *
+ * Parameters: n 1..1,100; nbit 1..10, N = 2^nbit; bgbit 1..24, l at least 1, l * bgbit at most 32; basebit 1..6, t at least 1,
+ * basebit * t at most 30. A word (uint32_t) counts 2^-32 of a turn.
+ */
+#ifndef EGL_H
+#define EGL_H
+
+#include <stddef.h>
+#include <stdint.h>
+
+#ifdef __cplusplus
+extern "C" {
+#endif
+
+typedef uint64_t egl_answer;
+
+#define EGL_NUMBER(answer) ((uint32_t)(answer))
+#define EGL_PLACE(answer) ((uint32_t)((answer) >> 32))
+#define EGL_VALUE(answer) ((uint32_t)((answer) >> 32))
+
+/* The six numbers, in the order in which every function takes them. */
+#define EGL_PARAMS uint32_t n, uint32_t nbit, uint32_t bgbit, uint32_t l, uint32_t basebit, uint32_t t
+
+/* ---- parameters ---- */
+
+/* 1 where a number is outside its range. */
+egl_answer egl_params_check(EGL_PARAMS);
+
+/* ---- doubles and words ---- */
+
+/* The fraction of d times 2^32, cut toward zero, modulo 2^32. A NaN and the infinities give 0. */
+uint32_t egl_utils_f64_to_torus(double d);
+
+/* t / 2^32, exactly. */
+double egl_utils_torus_to_f64(uint32_t t);
+
+/* The word of each double. Refused with 2 where the lengths differ. */
+egl_answer egl_utils_f64_to_torus_vec(const double *d, size_t d_len, uint32_t *out, size_t out_len);
+
+/* ---- the exact product modulo X^N + 1 and 2^32 ---- */
+
+/* out = a * b. Each buffer has N words. Refusals 1, 2. */
+egl_answer egl_product_poly_mul(EGL_PARAMS, const uint32_t *a, size_t a_len, const uint32_t *b, size_t b_len, uint32_t *out, size_t out_len);
+
+/* out = out + a * b. Each buffer has N words. Refusals 1, 2. */
+egl_answer egl_product_poly_mul_add(EGL_PARAMS, const uint32_t *a, size_t a_len, const uint32_t *b, size_t b_len, uint32_t *out, size_t out_len);
+
+/* ---- ciphertexts: n + 1 words at level 0 (_lv0), N + 1 words at level 1 (_lv1); the last word is b ---- */
+
+/* a + b, word by word modulo 2^32. Every buffer is a ciphertext. Refusals 1, 2. */
+egl_answer egl_tlwe_add_lv0(EGL_PARAMS, const uint32_t *a, size_t a_len, const uint32_t *b, size_t b_len, uint32_t *out, size_t out_len);
+egl_answer egl_tlwe_add_lv1(EGL_PARAMS, const uint32_t *a, size_t a_len, const uint32_t *b, size_t b_len, uint32_t *out, size_t out_len);
+
+/* a - b. Every buffer is a ciphertext. Refusals 1, 2. */
+egl_answer egl_tlwe_sub_lv0(EGL_PARAMS, const uint32_t *a, size_t a_len, const uint32_t *b, size_t b_len, uint32_t *out, size_t out_len);
+egl_answer egl_tlwe_sub_lv1(EGL_PARAMS, const uint32_t *a, size_t a_len, const uint32_t *b, size_t b_len, uint32_t *out, size_t out_len);
+
+/* -a: each word negated. Every buffer is a ciphertext. Refusals 1, 2. */
+egl_answer egl_tlwe_neg_lv0(EGL_PARAMS, const uint32_t *a, size_t a_len, uint32_t *out, size_t out_len);
+egl_answer egl_tlwe_neg_lv1(EGL_PARAMS, const uint32_t *a, size_t a_len, uint32_t *out, size_t out_len);
+
+/* a + multiplier * b. Every buffer is a ciphertext. Refusals 1, 2. */
+egl_answer egl_tlwe_add_mul_lv0(EGL_PARAMS, const uint32_t *a, size_t a_len, const uint32_t *b, size_t b_len, uint32_t multiplier, uint32_t *out, size_t out_len);
+egl_answer egl_tlwe_add_mul_lv1(EGL_PARAMS, const uint32_t *a, size_t a_len, const uint32_t *b, size_t b_len, uint32_t multiplier, uint32_t *out, size_t out_len);
+
+/* a - multiplier * b. Every buffer is a ciphertext. Refusals 1, 2. */
+egl_answer egl_tlwe_sub_mul_lv0(EGL_PARAMS, const uint32_t *a, size_t a_len, const uint32_t *b, size_t b_len, uint32_t multiplier, uint32_t *out, size_t out_len);
+egl_answer egl_tlwe_sub_mul_lv1(EGL_PARAMS, const uint32_t *a, size_t a_len, const uint32_t *b, size_t b_len, uint32_t multiplier, uint32_t *out, size_t out_len);
+
+/* A bit, 0 or not 0, as -1/8 or 1/8 of a turn, encrypted: out = the masks, then b = masks * key + word + noise.
+ * masks and key have n (or N) words, out one more. Refusals 1, 2, 4. */
+egl_answer egl_tlwe_encrypt_bit_lv0(EGL_PARAMS, uint32_t bit, const uint32_t *masks, size_t masks_len, uint32_t noise, const uint32_t *key, size_t key_len, uint32_t *out, size_t out_len);
+egl_answer egl_tlwe_encrypt_bit_lv1(EGL_PARAMS, uint32_t bit, const uint32_t *masks, size_t masks_len, uint32_t noise, const uint32_t *key, size_t key_len, uint32_t *out, size_t out_len);
+
+/* A fraction of a turn, encrypted: out = the masks, then b = masks * key + word + noise.
+ * masks and key have n (or N) words, out one more. Refusals 1, 2, 4. */
+egl_answer egl_tlwe_encrypt_turn_lv0(EGL_PARAMS, double turn, const uint32_t *masks, size_t masks_len, uint32_t noise, const uint32_t *key, size_t key_len, uint32_t *out, size_t out_len);
+egl_answer egl_tlwe_encrypt_turn_lv1(EGL_PARAMS, double turn, const uint32_t *masks, size_t masks_len, uint32_t noise, const uint32_t *key, size_t key_len, uint32_t *out, size_t out_len);
+
+/* A message, value mod modulus, as a multiple of 1/(2 modulus) of a turn, encrypted: out = the masks, then b = masks * key + word + noise.
+ * masks and key have n (or N) words, out one more. Refusals 1, 2, 4, 5. */
+egl_answer egl_tlwe_encrypt_message_lv0(EGL_PARAMS, uint64_t value, uint64_t modulus, const uint32_t *masks, size_t masks_len, uint32_t noise, const uint32_t *key, size_t key_len, uint32_t *out, size_t out_len);
+egl_answer egl_tlwe_encrypt_message_lv1(EGL_PARAMS, uint64_t value, uint64_t modulus, const uint32_t *masks, size_t masks_len, uint32_t noise, const uint32_t *key, size_t key_len, uint32_t *out, size_t out_len);
+
+/* The bit of the ciphertext c, 0 or 1, as the value. Refusals 1, 2, 4. */
+egl_answer egl_tlwe_decrypt_bit_lv0(EGL_PARAMS, const uint32_t *c, size_t c_len, const uint32_t *key, size_t key_len);
+egl_answer egl_tlwe_decrypt_bit_lv1(EGL_PARAMS, const uint32_t *c, size_t c_len, const uint32_t *key, size_t key_len);
+
+/* The message of the ciphertext c, below the modulus, as the value. Refusals 1, 2, 4, 5. */
+egl_answer egl_tlwe_decrypt_message_lv0(EGL_PARAMS, uint64_t modulus, const uint32_t *c, size_t c_len, const uint32_t *key, size_t key_len);
+egl_answer egl_tlwe_decrypt_message_lv1(EGL_PARAMS, uint64_t modulus, const uint32_t *c, size_t c_len, const uint32_t *key, size_t key_len);
+
+/* ---- pairs of polynomials: a and b, N words each ---- */
+
+/* N doubles, each a fraction of a turn, encrypted: a = masks, b = noise + words + a * key. Every buffer has N elements. Refusals 1, 2, 4. */
+egl_answer egl_trlwe_encrypt_f64(EGL_PARAMS, const double *plain, size_t plain_len, const uint32_t *masks, size_t masks_len, const uint32_t *noise, size_t noise_len, const uint32_t *key, size_t key_len, uint32_t *a, size_t a_len, uint32_t *b, size_t b_len);
+
+/* The same of N bits, bytes 0 (false) or not 0 (true). Refusals 1, 2, 4. */
+egl_answer egl_trlwe_encrypt_bool(EGL_PARAMS, const uint8_t *plain, size_t plain_len, const uint32_t *masks, size_t masks_len, const uint32_t *noise, size_t noise_len, const uint32_t *key, size_t key_len, uint32_t *a, size_t a_len, uint32_t *b, size_t b_len);
+
+/* The N bits of a pair, bytes 0 or 1. Refusals 1, 2, 4. */
+egl_answer egl_trlwe_decrypt_bool(EGL_PARAMS, const uint32_t *a, size_t a_len, const uint32_t *b, size_t b_len, const uint32_t *key, size_t key_len, uint8_t *out, size_t out_len);
+
+/* The level-1 ciphertext (N + 1 words) of coefficient k, k below N; past k the masks are complemented. Refusals 1, 2, 3. */
+egl_answer egl_trlwe_sample_extract_index(EGL_PARAMS, const uint32_t *a, size_t a_len, const uint32_t *b, size_t b_len, size_t k, uint32_t *out, size_t out_len);
+
+/* ---- rotation and rounding ---- */
+
+/* X^k * a, k from 0 to 2N; a coefficient that ends in the upper half is complemented (not negated). a and out have N words. Refusals 1, 2, 3. */
+egl_answer egl_trgsw_poly_mul_with_x_k(EGL_PARAMS, const uint32_t *a, size_t a_len, uint32_t k, uint32_t *out, size_t out_len);
+
+/* The rotation amount of a mask word, below 2N, as the value; the rounding wraps. Refusal 1. */
+egl_answer egl_trgsw_mask_amount(EGL_PARAMS, uint32_t x);
+
+/* The rotation amount of the last word b, from 0 to 2N, as the value; the rounding does not wrap. Refusal 1. */
+egl_answer egl_trgsw_body_amount(EGL_PARAMS, uint32_t b);
+/* ---- key material ---- */
+
+/* The decomposition's offset, as the value. Refusal 1. */
+egl_answer egl_key_decomposition_offset(EGL_PARAMS);
+
+/* The test vector: a zero, b an eighth of a turn in each of its N words. Refusals 1, 2. */
+egl_answer egl_key_gen_testvec(EGL_PARAMS, uint32_t *a, size_t a_len, uint32_t *b, size_t b_len);
+
+/* The switching key, 2^basebit * t * N rows of n + 1 words. Rows with k = 0 are zero; the others draw, in row order, n masks and one noise word each:
+ * masks has N * t * (2^basebit - 1) * n words, noise N * t * (2^basebit - 1). key_lv0 has n words, key_lv1 N. Refusals 1, 2, 4. */
+egl_answer egl_key_gen_key_switching_key(EGL_PARAMS, const uint32_t *key_lv0, size_t key_lv0_len, const uint32_t *key_lv1, size_t key_lv1_len, const uint32_t *masks, size_t masks_len, const uint32_t *noise, size_t noise_len, uint32_t *out, size_t out_len);
+
+/* What a lookup of row (i, j, k) in a switching key of so many words is answered. Refusals 1, 2, 3. */
+egl_answer egl_key_switching_row_answer(EGL_PARAMS, size_t words, size_t i, size_t j, size_t k);
+
+/* The place of that row among the rows: its first word stands at (n + 1) times this. */
+uint32_t egl_key_row_index(EGL_PARAMS, uint32_t i, uint32_t j, uint32_t k);
+
+/* One bit's part of the bootstrapping key: 2l rows of 2N words, encryptions of zero with m times the gadget added. masks and noise have 2l * N words,
+ * key_lv1 N, out 2l * 2N. Refusals 1, 2, 4. */
+egl_answer egl_trgsw_encrypt_torus(EGL_PARAMS, uint32_t m, const uint32_t *masks, size_t masks_len, const uint32_t *noise, size_t noise_len, const uint32_t *key_lv1, size_t key_lv1_len, uint32_t *out, size_t out_len);
+
+/* The bootstrapping key: such a part for each of the n bits of key_lv0. masks and noise have n * 2l * N words, out n * 2l * 2N. Refusals 1, 2, 4. */
+egl_answer egl_trgsw_gen_bootstrapping_key(EGL_PARAMS, const uint32_t *key_lv0, size_t key_lv0_len, const uint32_t *key_lv1, size_t key_lv1_len, const uint32_t *masks, size_t masks_len, const uint32_t *noise, size_t noise_len, uint32_t *out, size_t out_len);
+
+/* ---- decomposition, external product, blind rotation, key switching ---- */
+
+/* The 2l digit polynomials of a pair, in order: out has 2l * N words. Refusals 1, 2. */
+egl_answer egl_trgsw_decomposition(EGL_PARAMS, const uint32_t *a, size_t a_len, const uint32_t *b, size_t b_len, uint32_t *out, size_t out_len);
+
+/* The sum of digit polynomial times row; rows has 2l rows of 2N words, a then b. Refusals 1, 2. */
+egl_answer egl_trgsw_external_product(EGL_PARAMS, const uint32_t *rows, size_t rows_len, const uint32_t *a, size_t a_len, const uint32_t *b, size_t b_len, uint32_t *outa, size_t outa_len, uint32_t *outb, size_t outb_len);
+
+/* (a1, b1) + external product of (a2 - a1, b2 - b1). Refusals 1, 2. */
+egl_answer egl_trgsw_cmux(EGL_PARAMS, const uint32_t *a1, size_t a1_len, const uint32_t *b1, size_t b1_len, const uint32_t *a2, size_t a2_len, const uint32_t *b2, size_t b2_len, const uint32_t *rows, size_t rows_len, uint32_t *outa, size_t outa_len, uint32_t *outb, size_t outb_len);
+
+/* Step i of the blind rotation, in place on the accumulator (a, b), with the mask word of that step; key is the whole bootstrapping key, n times 2l rows of
+ * 2N words. Refusals 1, 2, 3. */
+egl_answer egl_trgsw_blind_rotate_step(EGL_PARAMS, const uint32_t *key, size_t key_len, size_t i, uint32_t mask, uint32_t *a, size_t a_len, uint32_t *b, size_t b_len);
+
+/* The blind rotation of the test vector by the level-0 ciphertext src. Refusals 1, 2. */
+egl_answer egl_trgsw_blind_rotate(EGL_PARAMS, const uint32_t *src, size_t src_len, const uint32_t *key, size_t key_len, uint32_t *a, size_t a_len, uint32_t *b, size_t b_len);
+
+/* A level-1 ciphertext src (N + 1 words) under the level-0 key; rows that a field of 0 would choose are never read. Refusals 1, 2. */
+egl_answer egl_trgsw_identity_key_switching(EGL_PARAMS, const uint32_t *src, size_t src_len, const uint32_t *ksk, size_t ksk_len, uint32_t *out, size_t out_len);
+
+/* ---- gates on level-0 ciphertexts (n + 1 words each); ksk is the switching key, bsk the bootstrapping key. Refusals 1, 2. ---- */
+
+/* not (a and b) */
+egl_answer egl_gates_nand(EGL_PARAMS, const uint32_t *a, size_t a_len, const uint32_t *b, size_t b_len, const uint32_t *ksk, size_t ksk_len, const uint32_t *bsk, size_t bsk_len, uint32_t *out, size_t out_len);
+/* a or b */
+egl_answer egl_gates_or(EGL_PARAMS, const uint32_t *a, size_t a_len, const uint32_t *b, size_t b_len, const uint32_t *ksk, size_t ksk_len, const uint32_t *bsk, size_t bsk_len, uint32_t *out, size_t out_len);
+/* a and b */
+egl_answer egl_gates_and(EGL_PARAMS, const uint32_t *a, size_t a_len, const uint32_t *b, size_t b_len, const uint32_t *ksk, size_t ksk_len, const uint32_t *bsk, size_t bsk_len, uint32_t *out, size_t out_len);
+/* not (a or b) */
+egl_answer egl_gates_nor(EGL_PARAMS, const uint32_t *a, size_t a_len, const uint32_t *b, size_t b_len, const uint32_t *ksk, size_t ksk_len, const uint32_t *bsk, size_t bsk_len, uint32_t *out, size_t out_len);
+/* (not a) and b */
+egl_answer egl_gates_and_ny(EGL_PARAMS, const uint32_t *a, size_t a_len, const uint32_t *b, size_t b_len, const uint32_t *ksk, size_t ksk_len, const uint32_t *bsk, size_t bsk_len, uint32_t *out, size_t out_len);
+/* a and (not b) */
+egl_answer egl_gates_and_yn(EGL_PARAMS, const uint32_t *a, size_t a_len, const uint32_t *b, size_t b_len, const uint32_t *ksk, size_t ksk_len, const uint32_t *bsk, size_t bsk_len, uint32_t *out, size_t out_len);
+/* (not a) or b */
+egl_answer egl_gates_or_ny(EGL_PARAMS, const uint32_t *a, size_t a_len, const uint32_t *b, size_t b_len, const uint32_t *ksk, size_t ksk_len, const uint32_t *bsk, size_t bsk_len, uint32_t *out, size_t out_len);
+/* a or (not b) */
+egl_answer egl_gates_or_yn(EGL_PARAMS, const uint32_t *a, size_t a_len, const uint32_t *b, size_t b_len, const uint32_t *ksk, size_t ksk_len, const uint32_t *bsk, size_t bsk_len, uint32_t *out, size_t out_len);
+/* a xor b */
+egl_answer egl_gates_xor(EGL_PARAMS, const uint32_t *a, size_t a_len, const uint32_t *b, size_t b_len, const uint32_t *ksk, size_t ksk_len, const uint32_t *bsk, size_t bsk_len, uint32_t *out, size_t out_len);
+/* a xor b: the original's xnor computes xor, and so does this one */
+egl_answer egl_gates_xnor(EGL_PARAMS, const uint32_t *a, size_t a_len, const uint32_t *b, size_t b_len, const uint32_t *ksk, size_t ksk_len, const uint32_t *bsk, size_t bsk_len, uint32_t *out, size_t out_len);
+
+/* b where a is true, else c: two rotations and one switch. */
+egl_answer egl_gates_mux(EGL_PARAMS, const uint32_t *a, size_t a_len, const uint32_t *b, size_t b_len, const uint32_t *c, size_t c_len, const uint32_t *ksk, size_t ksk_len, const uint32_t *bsk, size_t bsk_len, uint32_t *out, size_t out_len);
+
+/* The same of three gates. */
+egl_answer egl_gates_mux_naive(EGL_PARAMS, const uint32_t *a, size_t a_len, const uint32_t *b, size_t b_len, const uint32_t *c, size_t c_len, const uint32_t *ksk, size_t ksk_len, const uint32_t *bsk, size_t bsk_len, uint32_t *out, size_t out_len);
+
+/* Each word negated. */
+egl_answer egl_gates_not(EGL_PARAMS, const uint32_t *a, size_t a_len, uint32_t *out, size_t out_len);
+
+/* A copy. */
+egl_answer egl_gates_copy(EGL_PARAMS, const uint32_t *a, size_t a_len, uint32_t *out, size_t out_len);
+
+/* A bit, 0 or not 0, that every key decrypts. */
+egl_answer egl_gates_constant(EGL_PARAMS, uint32_t bit, uint32_t *out, size_t out_len);
+
+/* ---- circuits, as bytes ---- */
+
+/* Whether the bytes are a circuit. Refusals 6 to 10 with their place. */
+egl_answer egl_circuit_check(const uint8_t *bytes, size_t bytes_len);
+
+/* The work of a circuit, as the value: one for each gate of kind 3 or more. Refusals 6 to 10 with their place. */
+egl_answer egl_circuit_work(const uint8_t *bytes, size_t bytes_len);
+
+/* A circuit on plain bits: ins has a byte an input (0 false, any other true), out gets a byte an output, 0 or 1. Refusals 6 to 10 with their place, then 2. */
+egl_answer egl_circuit_run_plain(const uint8_t *bytes, size_t bytes_len, const uint8_t *ins, size_t ins_len, uint8_t *out, size_t out_len);
+
+#ifdef __cplusplus
+}
+#endif
+
+#endif

@@ -1,0 +1,242 @@
+//! Builds the copies of the original (one for each parameter set), the driver that compares
+//! them with the proved library's archive, and runs the driver. Compiled things are kept
+//! under target/oracle and made again only when their text changes.
+
+mod bridge;
+mod rules;
+
+use rules::Set;
+use std::fs;
+use std::path::{Path, PathBuf};
+use std::process::{exit, Command};
+use std::sync::atomic::{AtomicUsize, Ordering};
+use std::sync::Mutex;
+
+/// The groups of comparisons, each with the archive's functions that it needs in ffi/.
+const GROUPS: [&str; 10] = ["params", "utils", "product", "tlwe", "trlwe", "key", "rotation", "trgsw", "gates", "circuit"];
+
+struct Options {
+    root: PathBuf,
+    original: PathBuf,
+    archive: PathBuf,
+    groups: Option<Vec<String>>,
+    sets: Option<Vec<String>>,
+    rest: Vec<String>,
+}
+
+fn fail(why: &str) -> ! {
+    eprintln!("oracle: {why}");
+    exit(1)
+}
+
+fn options() -> Options {
+    let mut args = std::env::args().skip(1);
+    let root = PathBuf::from(args.next().unwrap_or_else(|| fail("no root folder")));
+    let mut o = Options {
+        original: root.join("../shared/docs/src"),
+        archive: root.join("target/staticlib/libegl_c.a"),
+        root,
+        groups: None,
+        sets: None,
+        rest: Vec::new(),
+    };
+    let list = |s: String| Some(s.split(',').map(String::from).collect());
+    while let Some(a) = args.next() {
+        let mut value = || args.next().unwrap_or_else(|| fail(&format!("{a} wants a value")));
+        match a.as_str() {
+            "--original" => o.original = value().into(),
+            "--archive" => o.archive = value().into(),
+            "--groups" => o.groups = list(value()),
+            "--sets" => o.sets = list(value()),
+            _ => o.rest.push(a),
+        }
+    }
+    o
+}
+
+fn sets(o: &Options) -> Vec<Set> {
+    let text = fs::read_to_string(o.root.join("oracle/sets.txt")).unwrap_or_else(|e| fail(&format!("sets.txt: {e}")));
+    let mut out = Vec::new();
+    for line in text.lines().filter(|l| !l.starts_with('#') && !l.trim().is_empty()) {
+        let words: Vec<&str> = line.split_whitespace().collect();
+        let p: Vec<u32> = words[1..].iter().map(|w| w.parse().unwrap_or_else(|_| fail(line))).collect();
+        let name = words[0].to_string();
+        if o.sets.as_ref().is_none_or(|s| s.contains(&name)) {
+            out.push(Set { name, p: p.try_into().unwrap_or_else(|_| fail(line)) });
+        }
+    }
+    out
+}
+
+/// The functions that a group declares and the archive does not offer.
+fn missing(o: &Options, group: &str, archive: &[u8]) -> Vec<String> {
+    let path = o.root.join(format!("oracle/driver/ffi/{group}.rs"));
+    let text = fs::read_to_string(&path).unwrap_or_else(|e| fail(&format!("{}: {e}", path.display())));
+    let names = text.split("fn egl_").skip(1).filter_map(|t| t.split('(').next()).map(|t| format!("egl_{t}"));
+    let held = |name: &String| {
+        let wanted: Vec<u8> = [name.as_bytes(), b"\0"].concat();
+        archive.windows(wanted.len()).any(|w| w == wanted)
+    };
+    names.filter(|n| !held(n)).collect()
+}
+
+/// The asked groups, or every one whose functions the archive offers; says which are left out.
+fn groups(o: &Options) -> Vec<String> {
+    let archive = fs::read(&o.archive).unwrap_or_else(|e| fail(&format!("no archive at {}: {e}", o.archive.display())));
+    // Only the archive's table of names is looked through, not its machine code.
+    let table = &archive[..archive.len().min(1 << 20)];
+    let mut out = Vec::new();
+    for g in GROUPS {
+        let asked = o.groups.as_ref().is_some_and(|list| list.iter().any(|x| x == g));
+        if o.groups.is_some() && !asked {
+            continue;
+        }
+        let lacks = missing(o, g, table);
+        if lacks.is_empty() {
+            out.push(g.to_string());
+        } else if asked {
+            fail(&format!("group {g}: the archive lacks {}", lacks.join(", ")));
+        } else {
+            println!("group {g} is left out: the archive lacks {}", lacks.join(", "));
+        }
+    }
+    out
+}
+
+fn stamp(parts: &[&str]) -> String {
+    let mut h = 0xcbf29ce484222325u64;
+    for byte in parts.iter().flat_map(|p| p.bytes().chain([0])) {
+        h = (h ^ byte as u64).wrapping_mul(0x100000001b3);
+    }
+    format!("{h:016x}")
+}
+
+/// Runs rustc for `out`, unless the stamp beside it tells that it was made from the same text.
+fn compile(out: &Path, text: &str, args: &[String]) {
+    let flags = args.join(" ");
+    let mark = stamp(&[text, &flags]);
+    let beside = out.with_extension("stamp");
+    if out.exists() && fs::read_to_string(&beside).is_ok_and(|s| s == mark) {
+        return;
+    }
+    let mut command = Command::new("rustc");
+    command.args(["--edition", "2021", "-C", "overflow-checks=off", "-C", "debug-assertions=off", "-o"]);
+    let status = command.arg(out).args(args).status();
+    if !status.is_ok_and(|s| s.success()) {
+        fail(&format!("rustc failed for {}", out.display()));
+    }
+    let _ = fs::write(beside, mark);
+}
+
+fn read_all(dir: &Path, text: &mut String) {
+    let Ok(entries) = fs::read_dir(dir) else { return };
+    let mut paths: Vec<PathBuf> = entries.flatten().map(|e| e.path()).collect();
+    paths.sort();
+    for p in paths {
+        if p.is_dir() {
+            read_all(&p, text);
+        } else if let Ok(t) = fs::read_to_string(&p) {
+            text.push_str(&t);
+        }
+    }
+}
+
+fn words(list: &[&str]) -> Vec<String> {
+    list.iter().map(|s| s.to_string()).collect()
+}
+
+/// The crates that every copy shares: the generators' stand-ins and the trait.
+fn shared(o: &Options, out: &Path) -> String {
+    let mut all = String::new();
+    for (name, file) in [("rand", "standin/rand.rs"), ("rand_distr", "standin/rand_distr.rs"), ("oracle_api", "api/lib.rs")] {
+        let path = o.root.join("oracle").join(file);
+        let text = fs::read_to_string(&path).unwrap_or_else(|e| fail(&format!("{file}: {e}")));
+        let lib = out.join(format!("lib{name}.rlib"));
+        compile(&lib, &text, &words(&["--crate-type", "rlib", "--crate-name", name, "-C", "opt-level=2", &path.to_string_lossy()]));
+        all.push_str(&text);
+    }
+    all
+}
+
+/// One copy of the original for each set, two compilers at a time.
+fn originals(o: &Options, sets: &[Set], out: &Path, common: &str) -> String {
+    let next = AtomicUsize::new(0);
+    let texts = Mutex::new(vec![String::new(); sets.len()]);
+    let work = || loop {
+        let i = next.fetch_add(1, Ordering::SeqCst);
+        let Some(set) = sets.get(i) else { return };
+        let dir = out.join("sets").join(&set.name);
+        let text = rules::copy(&o.original, &o.root.join("oracle"), set, &dir).unwrap_or_else(|e| fail(&e));
+        let lib = out.join(format!("libset_{}.rlib", set.name));
+        let extern_of = |c: &str| format!("{c}={}/lib{c}.rlib", out.display());
+        let source = dir.join("lib.rs");
+        let mut args = words(&["--crate-type", "rlib", "--crate-name", &format!("set_{}", set.name), "-C", "opt-level=2"]);
+        args.extend(words(&["-C", "codegen-units=1", "--cap-lints", "allow"]));
+        args.extend(words(&["--cfg", "feature=\"lut-bootstrap\"", "--cfg", "feature=\"bootstrapping\""]));
+        for c in ["rand", "rand_distr", "oracle_api"] {
+            args.extend(["--extern".into(), extern_of(c)]);
+        }
+        args.push(source.to_string_lossy().into());
+        compile(&lib, &(text.clone() + common), &args);
+        texts.lock().unwrap()[i] = text;
+    };
+    std::thread::scope(|s| {
+        s.spawn(work);
+        s.spawn(work);
+    });
+    texts.into_inner().unwrap().concat()
+}
+
+/// The list of sets as the driver reads it.
+fn list(sets: &[Set], given: bool) -> String {
+    let mut text = String::from("pub fn sets() -> Vec<crate::case::Set> {\n    vec![\n");
+    for s in sets {
+        let original = if given { format!("Some(&set_{}::adapter::SET)", s.name) } else { "None".into() };
+        text.push_str(&format!("        crate::case::Set {{ name: {:?}, p: {:?}, original: {original} }},\n", s.name, s.p));
+    }
+    text + "    ]\n}\n"
+}
+
+fn main() {
+    let o = options();
+    let out = o.root.join("target/oracle");
+    let groups = groups(&o);
+    let sets = sets(&o);
+    let given = o.original.join("src/lib.rs").exists();
+    let mut text = shared(&o, &out);
+    if given {
+        let common = text.clone();
+        text.push_str(&originals(&o, &sets, &out, &common));
+    } else {
+        println!("The original is not at {}: the comparison with it is left out.", o.original.display());
+    }
+    let list = list(&sets, given);
+    fs::write(out.join("sets.rs"), &list).unwrap_or_else(|e| fail(&e.to_string()));
+
+    let driver = o.root.join("oracle/driver");
+    read_all(&driver, &mut text);
+    let archive = fs::read(&o.archive).unwrap_or_default();
+    text.push_str(&list);
+    let source = driver.join("main.rs");
+    let mut args = words(&["--crate-name", "driver", "-C", "opt-level=3", "-A", "unused", &source.to_string_lossy()]);
+    for g in &groups {
+        args.extend(["--cfg".into(), format!("group_{g}")]);
+    }
+    args.extend(["-L".into(), out.to_string_lossy().into(), "--extern".into(), format!("oracle_api={}/liboracle_api.rlib", out.display())]);
+    for s in sets.iter().filter(|_| given) {
+        args.extend(["--extern".into(), format!("set_{}={}/libset_{}.rlib", s.name, out.display(), s.name)]);
+    }
+    if bridge::needed(&archive) {
+        args.extend(words(&["--cfg", "bridge"]));
+        let command = bridge::make(&driver.join("ffi"), &groups, &o.archive, &out).unwrap_or_else(|e| fail(&e));
+        std::env::set_var("ORACLE_BRIDGE", command);
+    } else {
+        args.extend(["-C".into(), format!("link-arg={}", o.archive.display()), "-C".into(), "link-arg=-lm".into()]);
+        text.push_str(&String::from_utf8_lossy(&archive));
+    }
+    std::env::set_var("ORACLE_SETS", out.join("sets.rs"));
+    let binary = out.join("driver");
+    compile(&binary, &text, &args);
+    let status = Command::new(&binary).args(&o.rest).status();
+    exit(status.ok().and_then(|s| s.code()).unwrap_or(1))
+}

@@ -1,0 +1,325 @@
+//! A case: a routine of the library, the arguments it is lent, and what it must leave.
+//! Expected numbers come from `table`, expected contents from the routine's reference
+//! (the original, or the exact steps of `exact`).
+
+use crate::source::Source;
+use crate::table::{self, Sizes};
+use oracle_api::Original;
+
+pub struct Set {
+    pub name: &'static str,
+    pub p: [u32; 6],
+    pub original: Option<&'static dyn Original>,
+}
+
+#[derive(Clone)]
+pub enum Arg {
+    Num(u64),
+    Turn(f64),
+    Words(Vec<u32>),
+    Bytes(Vec<u8>),
+    Longs(Vec<u64>),
+    Doubles(Vec<f64>),
+}
+
+#[derive(Clone, Copy)]
+pub enum Kind {
+    Words,
+    Bytes,
+    Longs,
+    Doubles,
+}
+
+pub type Size = fn(&Sizes) -> usize;
+
+/// What stands at an argument's place.
+pub enum Slot {
+    In(Kind, Size),
+    Out(Kind, Size),
+    /// A secret key: words 0 or 1.
+    Key(Size),
+    /// An amount or index of so many bits, and the largest that is allowed.
+    Index(u32, Size),
+    /// Any number of so many bits.
+    Number(u32),
+    Turn,
+    Modulus,
+    /// Not passed: the number that stands in the answer's high half, 0 beside a refusal.
+    Value,
+}
+
+pub struct Routine {
+    pub name: &'static str,
+    pub slots: &'static [Slot],
+    /// Elementary steps of one call, for choosing how many cases to run.
+    pub cost: Size,
+    pub call: fn(&[u32; 6], &mut [Arg]) -> u64,
+    /// Puts the expected contents into the arguments; false where no reference is at hand.
+    pub reference: fn(&Set, &mut [Arg]) -> bool,
+}
+
+impl Arg {
+    pub fn len(&self) -> usize {
+        match self {
+            Arg::Words(v) => v.len(),
+            Arg::Bytes(v) => v.len(),
+            Arg::Longs(v) => v.len(),
+            Arg::Doubles(v) => v.len(),
+            Arg::Num(_) | Arg::Turn(_) => 1,
+        }
+    }
+
+    /// The first place where the two differ.
+    pub fn differs(&self, other: &Arg) -> Option<usize> {
+        fn first<T: PartialEq>(a: &[T], b: &[T]) -> Option<usize> {
+            if a == b { None } else { a.iter().zip(b).position(|(x, y)| x != y).or(Some(a.len().min(b.len()))) }
+        }
+        match (self, other) {
+            (Arg::Num(a), Arg::Num(b)) if a != b => Some(0),
+            (Arg::Words(a), Arg::Words(b)) => first(a, b),
+            (Arg::Bytes(a), Arg::Bytes(b)) => first(a, b),
+            (Arg::Longs(a), Arg::Longs(b)) => first(a, b),
+            (Arg::Doubles(a), Arg::Doubles(b)) => {
+                if a.iter().map(|d| d.to_bits()).eq(b.iter().map(|d| d.to_bits())) { None } else { Some(0) }
+            }
+            _ => None,
+        }
+    }
+
+    pub fn text(&self) -> String {
+        let join = |v: Vec<String>| v.join(" ");
+        match self {
+            Arg::Num(x) => format!("{x:x}"),
+            Arg::Turn(d) => format!("{:016x}", d.to_bits()),
+            Arg::Words(v) => join(v.iter().map(|x| format!("{x:x}")).collect()),
+            Arg::Bytes(v) => join(v.iter().map(|x| format!("{x:x}")).collect()),
+            Arg::Longs(v) => join(v.iter().map(|x| format!("{x:x}")).collect()),
+            Arg::Doubles(v) => join(v.iter().map(|x| format!("{:016x}", x.to_bits())).collect()),
+        }
+    }
+
+    pub fn w(&self) -> &[u32] {
+        match self {
+            Arg::Words(v) => v,
+            _ => panic!("not words"),
+        }
+    }
+    pub fn num(&self) -> u64 {
+        match self {
+            Arg::Num(x) => *x,
+            _ => panic!("not a number"),
+        }
+    }
+}
+
+/// What was compared, and what differed.
+#[derive(Default)]
+pub struct Tally {
+    pub cases: u64,
+    pub refusals: u64,
+    pub words: u64,
+    pub differences: u64,
+    pub notes: Vec<String>,
+    /// Things worth telling that are no difference, with how often they were met.
+    pub remarks: Vec<(&'static str, u64)>,
+    /// Where a list is asked for: the lines of the cases, in place of calls.
+    pub list: Option<Vec<String>>,
+}
+
+impl Tally {
+    /// One comparison of any kind.
+    pub fn same(&mut self, same: bool, what: impl FnOnce() -> String) {
+        self.cases += 1;
+        self.words += 1;
+        if !same {
+            self.differ(what());
+        }
+    }
+
+    pub fn differ(&mut self, what: String) {
+        self.differences += 1;
+        if self.differences <= 5 {
+            self.notes.push(what);
+        }
+    }
+
+    pub fn remark(&mut self, what: &'static str) {
+        match self.remarks.iter_mut().find(|r| r.0 == what) {
+            Some(r) => r.1 += 1,
+            None => self.remarks.push((what, 1)),
+        }
+    }
+
+    /// One case against its reference.
+    pub fn check(&mut self, r: &Routine, set: &Set, p: &[u32; 6], args: Vec<Arg>) {
+        let number = table::number(p, r.slots, &args);
+        let mut want = args.clone();
+        if number == 0 && !(r.reference)(set, &mut want) {
+            return;
+        }
+        if let (Some(Slot::Value), true) = (r.slots.last(), number != 0) {
+            *want.last_mut().unwrap() = Arg::Num(0);
+        }
+        if let Some(list) = &mut self.list {
+            return list.push(line(r, p, &args, number, &want));
+        }
+        let mut got = args;
+        let mut answer = (r.call)(p, &mut got);
+        if let Some(Slot::Value) = r.slots.last() {
+            *got.last_mut().unwrap() = Arg::Num(answer >> 32);
+            answer &= u32::MAX as u64;
+        }
+        self.cases += 1;
+        self.refusals += (number != 0) as u64;
+        self.words += 1;
+        if answer != number as u64 {
+            self.differ(format!("{} at {p:?}: answer {answer:#x}, wanted {number}", r.name));
+        }
+        for (i, slot) in r.slots.iter().enumerate() {
+            if let Slot::Out(..) = slot {
+                self.words += got[i].len() as u64;
+            }
+            if let Some(k) = got[i].differs(&want[i]) {
+                self.differ(format!("{} at {p:?}: argument {i} differs at {k} (answer {answer}, wanted {number})", r.name));
+                break;
+            }
+        }
+    }
+}
+
+/// A case as a line of numbers: routine, parameters, arguments in order, then the number and
+/// each lent slice that may be written, as it stands afterwards, or the value beside the number. Hex words, `|` between parts.
+fn line(r: &Routine, p: &[u32; 6], args: &[Arg], number: u32, want: &[Arg]) -> String {
+    let mut out = format!("{} {}", r.name, p.map(|x| format!("{x:x}")).join(" "));
+    for (_, a) in r.slots.iter().zip(args).filter(|(slot, _)| !matches!(slot, Slot::Value)) {
+        out += &format!(" | {}", a.text());
+    }
+    out += &format!(" => {number}");
+    for (slot, a) in r.slots.iter().zip(want) {
+        if let Slot::Out(..) | Slot::Value = slot {
+            out += &format!(" | {}", a.text());
+        }
+    }
+    out
+}
+
+fn filled(source: &mut Source, kind: Kind, len: usize) -> Arg {
+    match kind {
+        Kind::Words => Arg::Words(source.words(len)),
+        Kind::Bytes => Arg::Bytes(source.bytes(len)),
+        Kind::Longs => Arg::Longs((0..len).map(|_| source.next()).collect()),
+        Kind::Doubles => Arg::Doubles((0..len).map(|_| source.double()).collect()),
+    }
+}
+
+/// Arguments that the routine must accept; slices to be written hold words to be overwritten.
+pub fn good(source: &mut Source, r: &Routine, p: &[u32; 6]) -> Vec<Arg> {
+    let s = Sizes::of(p);
+    let mut out = Vec::new();
+    for slot in r.slots {
+        out.push(match slot {
+            Slot::In(kind, len) => filled(source, *kind, len(&s)),
+            Slot::Out(kind, len) => match kind {
+                Kind::Words => Arg::Words((0..len(&s)).map(|_| source.next() as u32).collect()),
+                _ => filled(source, *kind, len(&s)),
+            },
+            Slot::Key(len) => Arg::Words(source.key(len(&s))),
+            Slot::Index(_, most) => {
+                let most = most(&s) as u64;
+                Arg::Num(if source.below(4) == 0 { source.of(&[0, most]) } else { source.below(most + 1) })
+            }
+            Slot::Number(32) => Arg::Num(source.word() as u64),
+            Slot::Number(_) => Arg::Num(if source.below(2) == 0 { source.below(200) } else { source.next() }),
+            Slot::Turn => Arg::Turn(source.double()),
+            Slot::Modulus => Arg::Num(2 << source.below(6)),
+            Slot::Value => Arg::Num(u64::MAX),
+        });
+    }
+    out
+}
+
+fn resized(source: &mut Source, arg: &mut Arg) {
+    let len = arg.len();
+    let to = source.of(&[len + 1, len.saturating_sub(1), 0, 2 * len, len + 2]);
+    match arg {
+        Arg::Words(v) => v.resize(to, 1),
+        Arg::Bytes(v) => v.resize(to, 1),
+        Arg::Longs(v) => v.resize(to, 1),
+        Arg::Doubles(v) => v.resize(to, 0.5),
+        _ => {}
+    }
+}
+
+fn wrong_parameter(source: &mut Source, p: &mut [u32; 6]) {
+    let i = source.below(6) as usize;
+    let past = [1101, 11, 25, 32 / p[2].max(1) + 1, 7, 30 / p[4].max(1) + 1][i];
+    p[i] = match source.below(6) {
+        0 => 0,
+        1 => u32::MAX,
+        2 => past,
+        3 => 1 << 31,
+        4 => p[i].wrapping_add(1),
+        _ => source.next() as u32,
+    };
+}
+
+/// Arguments with one to three faults, so that the order of the checks shows.
+pub fn faulty(source: &mut Source, r: &Routine) -> ([u32; 6], Vec<Arg>) {
+    let mut p = small(source);
+    let mut args = good(source, r, &p);
+    for _ in 0..1 + source.below(3) {
+        let i = source.below(r.slots.len() as u64 + 1) as usize;
+        if i == r.slots.len() {
+            wrong_parameter(source, &mut p);
+            continue;
+        }
+        match (&r.slots[i], &mut args[i]) {
+            (Slot::Key(_), Arg::Words(w)) if !w.is_empty() && source.below(3) > 0 => {
+                let at = source.of(&[0, w.len() - 1, w.len() / 2]);
+                w[at] = source.of(&[2, 3, u32::MAX, 1 << 31]);
+            }
+            (Slot::Index(bits, most), Arg::Num(x)) => {
+                let most = if table::in_range(&p) { most(&Sizes::of(&p)) as u64 } else { 4 };
+                *x = source.of(&[most + 1, most + 2, 2 * most + 7, u32::MAX as u64, u64::MAX >> (64 - bits)]);
+            }
+            (Slot::Modulus, Arg::Num(m)) => *m = source.of(&[0, 1, 3, 6, 63, 65, 128, 1 << 32, (1 << 32) + 2, 1 << 63, u64::MAX]),
+            (Slot::In(..) | Slot::Out(..) | Slot::Key(_), a) => resized(source, a),
+            _ => {}
+        }
+    }
+    (p, args)
+}
+
+/// Small parameters in range, for refusals: slices stay short.
+pub fn small(source: &mut Source) -> [u32; 6] {
+    let bgbit = 1 + source.below(24) as u32;
+    let basebit = 1 + source.below(3) as u32;
+    let l = 1 + source.below((32 / bgbit).min(4) as u64) as u32;
+    let t = 1 + source.below((30 / basebit).min(4) as u64) as u32;
+    [1 + source.below(6) as u32, 1 + source.below(3) as u32, bgbit, l, basebit, t]
+}
+
+/// How much slower than plain code the library runs here: an emulator takes its time.
+pub const SLOW: usize = if cfg!(bridge) { 20 } else { 1 };
+
+/// The most cases of a routine at one set: through the bridge a call has a price of its own.
+const MOST: usize = if cfg!(bridge) { 400 } else { 1200 };
+
+/// The routine's cases for one set: as many as its cost allows, then the refusals.
+pub fn run(tally: &mut Tally, r: &Routine, set: &Set, budget: usize, refusals: usize) {
+    let mut source = Source::new(crate::SEED, &format!("{} {}", r.name, set.name));
+    let cost = (r.cost)(&Sizes::of(&set.p)).max(1);
+    let budget = budget / SLOW;
+    if cost <= 40 * budget {
+        for _ in 0..(budget / cost).clamp(1, MOST) {
+            let args = good(&mut source, r, &set.p);
+            tally.check(r, set, &set.p, args);
+        }
+    }
+    for _ in 0..refusals {
+        let (p, args) = faulty(&mut source, r);
+        if table::number(&p, r.slots, &args) != 0 {
+            tally.check(r, set, &p, args);
+        }
+    }
+}

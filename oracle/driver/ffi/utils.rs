@@ -1,0 +1,28 @@
+//! No parameters travel with these. Two of them are asked for whole lists at a time.
+
+use crate::case::Arg;
+
+crate::ffi::plain_functions! {
+    fn egl_utils_f64_to_torus_vec(doubles, words_out);
+}
+
+#[cfg(bridge)]
+pub use crate::bridge::{doubles_of, words_of};
+
+#[cfg(not(bridge))]
+unsafe extern "C" {
+    fn egl_utils_f64_to_torus(d: f64) -> u32;
+    fn egl_utils_torus_to_f64(t: u32) -> f64;
+}
+
+/// The words of doubles, one call each.
+#[cfg(not(bridge))]
+pub fn words_of(list: &[f64]) -> Vec<u32> {
+    list.iter().map(|d| unsafe { egl_utils_f64_to_torus(*d) }).collect()
+}
+
+/// The doubles of words, one call each.
+#[cfg(not(bridge))]
+pub fn doubles_of(list: &[u32]) -> Vec<f64> {
+    list.iter().map(|w| unsafe { egl_utils_torus_to_f64(*w) }).collect()
+}

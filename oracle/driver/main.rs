@@ -1,0 +1,144 @@
+//! Compares the proved library with the original, group by group and set by set.
+//!   driver                     runs every group, one line each; status 1 on any difference
+//!   driver sample GROUP COUNT  lists COUNT cases of each of the group's routines, one a line
+
+#[cfg(bridge)]
+mod bridge;
+mod case;
+mod exact;
+mod ffi;
+mod groups;
+mod honest;
+mod source;
+mod table;
+
+#[allow(unused_extern_crates)]
+mod list {
+    include!(env!("ORACLE_SETS"));
+}
+
+use case::{Set, Tally};
+use groups::{Group, Run};
+use std::sync::atomic::{AtomicUsize, Ordering};
+use std::sync::Mutex;
+
+/// Every case follows from this number and the names of the routine and the set.
+pub const SEED: u64 = 0x5EED_2026;
+
+struct Job<'a> {
+    group: &'a Group,
+    set: Option<&'a Set>,
+}
+
+fn run(job: &Job, sets: &[Set]) -> Tally {
+    let mut tally = Tally::default();
+    match (&job.group.run, job.set) {
+        (Run::Once(f), _) => f(sets, &mut tally),
+        (Run::EachSet(f), Some(set)) => f(set, &mut tally),
+        _ => {}
+    }
+    tally
+}
+
+fn lines(job: &Job, tally: &Tally, seconds: f64) -> String {
+    let on = job.set.map_or(String::new(), |s| format!(" {} {:?}", s.name, s.p));
+    let mut out = format!(
+        "{}{on}: {} comparisons ({} of them refusals), {} words, {} differences, {seconds:.1} s",
+        job.group.name, tally.cases, tally.refusals, tally.words, tally.differences
+    );
+    for note in &tally.notes {
+        out += &format!("\n    {note}");
+    }
+    for (what, times) in &tally.remarks {
+        out += &format!("\n    ({times} times: {what})");
+    }
+    out
+}
+
+/// Every job, in the order of the lines to be printed.
+fn jobs<'a>(groups: &'a [Group], sets: &'a [Set]) -> Vec<Job<'a>> {
+    let mut jobs = Vec::new();
+    for group in groups {
+        match group.run {
+            Run::Once(_) => jobs.push(Job { group, set: None }),
+            Run::EachSet(_) => jobs.extend(sets.iter().map(|s| Job { group, set: Some(s) })),
+        }
+    }
+    jobs
+}
+
+/// Runs the jobs on two threads, those with the largest keys first; prints a line for each
+/// and the sums of each group, and gives the number of differences.
+fn run_all(groups: &[Group], sets: &[Set]) -> u64 {
+    let jobs = jobs(groups, sets);
+    let mut order: Vec<usize> = (0..jobs.len()).collect();
+    order.sort_by_key(|&i| std::cmp::Reverse(jobs[i].set.map_or(0, |s| s.p[0] << s.p[1])));
+    let next = AtomicUsize::new(0);
+    let done = Mutex::new(Vec::new());
+    let work = || loop {
+        let at = next.fetch_add(1, Ordering::SeqCst);
+        let Some(&i) = order.get(at) else { return };
+        let start = std::time::Instant::now();
+        let tally = run(&jobs[i], sets);
+        println!("{}", lines(&jobs[i], &tally, start.elapsed().as_secs_f64()));
+        done.lock().unwrap().push((i, tally));
+    };
+    std::thread::scope(|s| {
+        for _ in 0..2 {
+            // the original keeps whole keys on the stack
+            std::thread::Builder::new().stack_size(256 << 20).spawn_scoped(s, work).unwrap();
+        }
+    });
+    let done: Vec<(usize, Tally)> = done.into_inner().unwrap();
+    assert!(done.len() == jobs.len(), "a job did not end");
+    for group in groups {
+        let of: Vec<&Tally> = done.iter().filter(|d| jobs[d.0].group.name == group.name).map(|d| &d.1).collect();
+        let sum = |f: fn(&Tally) -> u64| of.iter().map(|t| f(t)).sum::<u64>();
+        let (cases, refusals) = (sum(|t| t.cases), sum(|t| t.refusals));
+        println!("{}: {cases} comparisons in all, {refusals} refusals, {} differences", group.name, sum(|t| t.differences));
+    }
+    done.iter().map(|d| d.1.differences).sum()
+}
+
+/// Lists cases of every routine of a group, over the sets in turn, and some refusals.
+fn sample(groups: &[Group], sets: &[Set], group: &str, count: usize) {
+    let Some(group) = groups.iter().find(|g| g.name == group) else {
+        eprintln!("no group {group} in this archive");
+        std::process::exit(1)
+    };
+    for r in group.routines {
+        let mut tally = Tally { list: Some(Vec::new()), ..Tally::default() };
+        let mut source = source::Source::new(SEED, &format!("sample {}", r.name));
+        // programs that replay a list use small sets
+        let fit: Vec<&Set> = sets.iter().filter(|s| s.p[0] <= 64 && s.p[1] <= 6 && (r.cost)(&table::Sizes::of(&s.p)) < 10_000_000).collect();
+        for i in 0..count {
+            let Some(set) = fit.get(i % fit.len().max(1)) else { break };
+            let (p, args) = if i % 4 == 3 { case::faulty(&mut source, r) } else { (set.p, case::good(&mut source, r, &set.p)) };
+            if p == set.p || table::number(&p, r.slots, &args) != 0 {
+                tally.check(r, set, &p, args);
+            }
+        }
+        for line in tally.list.unwrap() {
+            println!("{line}");
+        }
+    }
+}
+
+fn main() {
+    let sets = list::sets();
+    let groups = groups::groups();
+    let args: Vec<String> = std::env::args().skip(1).collect();
+    match args.iter().map(String::as_str).collect::<Vec<_>>()[..] {
+        [] => {
+            let start = std::time::Instant::now();
+            let differences = run_all(&groups, &sets);
+            println!("oracle: {differences} differences, {:.0} s", start.elapsed().as_secs_f64());
+            std::process::exit((differences != 0) as i32)
+        }
+        ["sample", group, count] => sample(&groups, &sets, group, count.parse().unwrap_or(10)),
+        _ => {
+            eprintln!("driver [sample GROUP COUNT]");
+            std::process::exit(2)
+        }
+    }
+}

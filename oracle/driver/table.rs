@@ -1,0 +1,64 @@
+//! An independent model of document 01's table of refusals: which number a call must give.
+
+use crate::case::{Arg, Slot};
+
+/// The numbers that lengths and bounds depend on, for parameters in range.
+pub struct Sizes {
+    pub n: usize,
+    pub ring: usize,
+    pub l: usize,
+    pub base: usize,
+    pub t: usize,
+}
+
+impl Sizes {
+    pub fn of(p: &[u32; 6]) -> Sizes {
+        Sizes { n: p[0] as usize, ring: 1 << p[1], l: p[3] as usize, base: 1 << p[4], t: p[5] as usize }
+    }
+    /// Words of the rows of one key bit.
+    pub fn rows(&self) -> usize {
+        2 * self.l * 2 * self.ring
+    }
+    pub fn bootstrapping(&self) -> usize {
+        self.n * self.rows()
+    }
+    pub fn switching(&self) -> usize {
+        self.base * self.t * self.ring * (self.n + 1)
+    }
+}
+
+pub fn in_range(p: &[u32; 6]) -> bool {
+    let [n, nbit, bgbit, l, basebit, t] = p.map(u64::from);
+    (1..=1100).contains(&n)
+        && (1..=10).contains(&nbit)
+        && (1..=24).contains(&bgbit)
+        && l >= 1
+        && l * bgbit <= 32
+        && (1..=6).contains(&basebit)
+        && t >= 1
+        && basebit * t <= 30
+}
+
+/// The number by the table: the first check, in its order, that fails.
+pub fn number(p: &[u32; 6], slots: &[Slot], args: &[Arg]) -> u32 {
+    if !in_range(p) {
+        return 1;
+    }
+    let s = Sizes::of(p);
+    let mut found = 0;
+    let mut note = |number: u32| {
+        if found == 0 || number < found {
+            found = number;
+        }
+    };
+    for (slot, arg) in slots.iter().zip(args) {
+        match (slot, arg) {
+            (Slot::In(_, len) | Slot::Out(_, len) | Slot::Key(len), a) if a.len() != len(&s) => note(2),
+            (Slot::Key(_), Arg::Words(w)) if w.iter().any(|&x| x > 1) => note(4),
+            (Slot::Index(_, most), Arg::Num(x)) if *x > most(&s) as u64 => note(3),
+            (Slot::Modulus, Arg::Num(m)) if ![2, 4, 8, 16, 32, 64].contains(m) => note(5),
+            _ => {}
+        }
+    }
+    found
+}
