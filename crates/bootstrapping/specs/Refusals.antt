@@ -1,4 +1,4 @@
--- The refusals of `encrypt_torus` and `gen_bootstrapping_key` (01, 'Refusal numbers'; the lengths of READINGS 16).
+-- The refusals of `encrypt_torus` and `gen_bootstrapping_key` (01, 'Refusal numbers'; docs/DECISIONS.md, Readings).
 use mathlib.Core.List.{List}
 use Prim.Native.Nat.{ℕ, _*_}
 use lib.Dec.{eqb}

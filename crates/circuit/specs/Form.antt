@@ -1,4 +1,4 @@
--- The circuit form (01, 'Circuits'; READINGS 6 and 7): the fields of a circuit's bytes, and the answer that reading them gives.
+-- The circuit form (01, 'Circuits'; docs/DECISIONS.md, Readings): the fields of a circuit's bytes, and the answer that reading them gives.
 use mathlib.Core.Bool.{Bool}
 use mathlib.Core.List.{List}
 use Prim.Native.Nat.{ℕ, zero, suc, _+_, _*_}

@@ -28,9 +28,8 @@ one = pos 1
 abbrev pub two : ℤ
 two = pos 2
 
--- The table (01, gates). `and_ny` is (not a) and b, `or_ny` is (not a) or b, whatever the Rust's comment says. `xnor` means xor: its sum
--- and that of `xor` differ by 4b + 4 eighths, which is nothing or a whole turn where b is ±1, so the Rust's `xnor` computes xor. (Kind 8 of a circuit
--- has xnor's Boolean meaning: it runs xor and negates.)
+-- The table (01, gates). `and_ny` is (not a) and b, `or_ny` is (not a) or b, whatever the Rust's comment says. `xnor` means xor: its sum a - 2b - 2 and
+-- xor's a + 2b + 2 differ by 4b + 4 eighths, which for b = ±1 is a whole turn or nothing (so 01 lets kind 8 of a circuit run xor and negate).
 abbrev pub rowOf : Kind → Row
 rowOf Nand = row (negℤ one) (negℤ one) one (λ a b. not (a && b))
 rowOf Or = row one one one (λ a b. a || b)

@@ -1,4 +1,4 @@
--- The length of every slice that a routine is lent (01, tlwe, trlwe and key; READINGS 16).
+-- The length of every slice that a routine is lent (01, tlwe, trlwe and key; docs/DECISIONS.md, Readings).
 use Prim.Native.Nat.{ℕ, _+_, _*_, _-_, _^_}
 use Rattle.params.specs.declared.Params.{Params}
 use Rattle.params.specs.declared.Sizes.{Sizes}

@@ -30,7 +30,7 @@ encryptNumber p lp lm ln key la lb =
 unfoldable pub freshBody : ℕ → List ℕ → List ℕ → List ℕ → List ℕ → List ℕ
 freshBody N plain noise masks z = plus N (plus N plain noise) (times N masks z)
 
--- A lent bit is a byte: 0 false, any other true (01, Circuits; READINGS 15).
+-- A lent bit is a byte: 0 false, any other true (01, Circuits; docs/DECISIONS.md, Readings).
 abbrev pub isTrue : ℕ → Bool
 isTrue byte = ltb 0 byte
 
