@@ -225,6 +225,17 @@ egl_answer egl_circuit_work(const uint8_t *bytes, size_t bytes_len);
 /* A circuit on plain bits: ins has a byte an input (0 false, any other true), out gets a byte an output, 0 or 1. Refusals 6 to 10 with their place, then 2. */
 egl_answer egl_circuit_run_plain(const uint8_t *bytes, size_t bytes_len, const uint8_t *ins, size_t ins_len, uint8_t *out, size_t out_len);
 
+/* A circuit on ciphertexts of n + 1 words each. ins has one for each input; afterwards wires has every wire's, the inputs' first and then gate after
+ * gate, and out the outputs'. Kind 8 has its Boolean meaning: it runs xor and negates. A gate of kind 3 or more takes as long as egl_gates_nand (mux
+ * twice as long), so a caller that wants to see progress goes gate by gate instead. Refusals 1, 2 for the keys, 6 to 10 with their place, 2 for ins,
+ * wires and out. */
+egl_answer egl_circuit_run_encrypted(EGL_PARAMS, const uint32_t *ksk, size_t ksk_len, const uint32_t *bsk, size_t bsk_len, const uint8_t *bytes, size_t bytes_len, const uint32_t *ins, size_t ins_len, uint32_t *wires, size_t wires_len, uint32_t *out, size_t out_len);
+
+/* Gate g of such a run alone, from 0 on: it reads the wires before its own and writes its own, wire inputs + g. The inputs' ciphertexts stand in front of
+ * wires from the start; all gates in order make the run. Where the circuit has no gate g nothing is written and the answer is 0. Refusals 1, 2 for the
+ * keys, 6 to 10 with their place, 2 for wires. */
+egl_answer egl_circuit_run_gate(EGL_PARAMS, const uint32_t *ksk, size_t ksk_len, const uint32_t *bsk, size_t bsk_len, const uint8_t *bytes, size_t bytes_len, size_t g, uint32_t *wires, size_t wires_len);
+
 #ifdef __cplusplus
 }
 #endif

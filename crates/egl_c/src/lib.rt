@@ -7,6 +7,7 @@ use params::Answer;
 pub mod blind_rotation_c;
 pub mod bootstrapping_c;
 pub mod circuit_c;
+pub mod encrypted_run_c;
 pub mod gates_c;
 pub mod key_c;
 pub mod params_c;

@@ -1,0 +1,77 @@
+-- A run reads no key row that its gates do not use: two key materials that are alike where the gates look give the same wires. A switching is a sum, and a field
+-- that is 0 adds nothing; gate after gate the wires are then the same, by induction on the gates.
+-- Assumes nothing.
+use mathlib.Core.Path.{_≡_, refl, ap, _∙_}
+use mathlib.Core.Bool.{cond}
+use mathlib.Core.List.{List, _++_}
+use Prim.Native.Nat.{ℕ, zero, suc, _+_, _%_, _<_}
+use native.Mathlib.Omega.{arith}
+use native.Mathlib.Decide.{ℕ-discrete}
+use borrow.Author.Tests.{eq-eqb, ne-eqb}
+use lib.Dec.{eqb}
+use Rattle.ring.specs.Word.{Q, at, neg}
+use Rattle.ring.proofs.Tab.{tab-ext}
+use Rattle.ring.proofs.SumLaws.{sum-ext}
+use Rattle.params.specs.declared.Params.{Params}
+use Rattle.params.specs.Sizes.{size}
+use Rattle.key.specs.Switching.{rowPart}
+use Rattle.switching.specs.Switched.{fieldAt, used, takes, startWord, switched}
+use Rattle.tlwe.specs.Linear.{negative}
+use Rattle.gates.specs.declared.Kind.{Kind}
+use Rattle.gates.specs.declared.Kind.the-variants.{And, AndNy}
+use Rattle.gates.specs.Sum.{summed, muxSum}
+use Rattle.gates.specs.Gate.{rotatedSample, bootstrapped, gated, muxed}
+use Rattle.circuit.specs.Form.{gates, kindAt, operandAt}
+use Rattle.encrypted_run.specs.Ways.{Way, wayOf, ran}
+use Rattle.encrypted_run.specs.Run.{cipherAt, gateCipher, ciphersTo, ciphersOf}
+use Rattle.encrypted_run.specs.Rows.{RowsAlike, Alike, KeysAlike, GateAlike}
+
+-- one field: 0 takes nothing, and another takes the row that is alike
+field-alike : (p : Params) (ksk ksk′ sample : List ℕ) → RowsAlike p ksk ksk′ sample → (i j x : ℕ) → i < size p → j < p .t → x < p .n + 1
+    → takes p ksk i j (fieldAt p sample i j) x ≡ takes p ksk′ i j (fieldAt p sample i j) x
+unfolding takes used RowsAlike
+field-alike p ksk ksk′ sample h i j x hi hj hx = go (ℕ-discrete (fieldAt p sample i j) 0)
+  where
+    go : Dec (fieldAt p sample i j ≡ 0) → cond (eqb (fieldAt p sample i j) 0) 0 (neg (at (rowPart p ksk i j (fieldAt p sample i j)) x)) ≡ cond (eqb (fieldAt p sample i j) 0) 0 (neg (at (rowPart p ksk′ i j (fieldAt p sample i j)) x))
+    go (yes e) = rw (eq-eqb (fieldAt p sample i j) 0 e)
+    go (no d) = rw (ne-eqb (fieldAt p sample i j) 0 d) (ap neg (h i j x hi hj hx d))
+
+-- a switching
+pub switched-alike : (p : Params) (ksk ksk′ sample : List ℕ) → RowsAlike p ksk ksk′ sample → switched p ksk sample ≡ switched p ksk′ sample
+unfolding switched
+switched-alike p ksk ksk′ sample h =
+    tab-ext (p .n + 1) _ _ (λ x hx.
+    ap (λ (s : ℕ). (startWord p (at sample (size p)) x + s) % Q)
+    (sum-ext (size p) _ _ (λ i hi. sum-ext (p .t) _ _ (λ j hj. field-alike p ksk ksk′ sample h i j x hi hj hx))))
+
+-- a gate's bootstrapping
+gated-alike : (p : Params) (kind : Kind) (ksk ksk′ bsk bsk′ a b : List ℕ) → Alike p ksk ksk′ bsk bsk′ (rotatedSample p bsk (summed p kind a b)) → gated p kind ksk bsk a b ≡ gated p kind ksk′ bsk′ a b
+unfolding bootstrapped
+gated-alike p kind ksk ksk′ bsk bsk′ a b h =
+    switched-alike p ksk ksk′ (rotatedSample p bsk (summed p kind a b)) (h .1)
+    ∙ ap (λ (k : List ℕ). switched p ksk′ (rotatedSample p k (summed p kind a b))) (h .0)
+
+-- each way
+pub ran-alike : (p : Params) (ksk ksk′ bsk bsk′ : List ℕ) (way : Way) (a b c : List ℕ) → KeysAlike p ksk ksk′ bsk bsk′ way a b c → ran p ksk bsk way a b c ≡ ran p ksk′ bsk′ way a b c
+unfolding ran KeysAlike muxed
+ran-alike p ksk ksk′ bsk bsk′ (Way.known bit) a b c h = refl
+ran-alike p ksk ksk′ bsk bsk′ Way.negated a b c h = refl
+ran-alike p ksk ksk′ bsk bsk′ (Way.gate kind) a b c h = gated-alike p kind ksk ksk′ bsk bsk′ a b h
+ran-alike p ksk ksk′ bsk bsk′ (Way.negatedGate kind) a b c h = ap (negative (p .n + 1)) (gated-alike p kind ksk ksk′ bsk bsk′ a b h)
+ran-alike p ksk ksk′ bsk bsk′ Way.choice a b c h =
+    switched-alike p ksk ksk′ (muxSum p (rotatedSample p bsk (summed p And a b)) (rotatedSample p bsk (summed p AndNy a c))) (h .1)
+    ∙ ap (λ (k : List ℕ). switched p ksk′ (muxSum p (rotatedSample p k (summed p And a b)) (rotatedSample p k (summed p AndNy a c)))) (h .0)
+
+module _ (p : Params) (ksk ksk′ bsk bsk′ bs ins : List ℕ) where
+  wires-alike : (n : ℕ) → ((g : ℕ) → g < n → GateAlike p ksk ksk′ bsk bsk′ bs ins g) → ciphersTo p ksk bsk bs ins n ≡ ciphersTo p ksk′ bsk′ bs ins n
+  unfolding ciphersTo gateCipher GateAlike
+  wires-alike zero h = refl
+  wires-alike (suc n) h =
+      let before = wires-alike n (λ g l. h g (omega arith)) in
+      let ws = ciphersTo p ksk bsk bs ins n in
+      let own : gateCipher p ksk bsk bs ws n ≡ gateCipher p ksk′ bsk′ bs ws n = ran-alike p ksk ksk′ bsk bsk′ (wayOf (kindAt bs n)) (cipherAt p ws (operandAt bs n 0)) (cipherAt p ws (operandAt bs n 1)) (cipherAt p ws (operandAt bs n 2)) (h n (omega arith)) in
+      ap (λ (x : List ℕ). ws ++ x) own ∙ ap (λ (x : List ℕ). x ++ gateCipher p ksk′ bsk′ bs x n) before
+
+  -- the whole run
+  pub unread : ((g : ℕ) → g < gates bs → GateAlike p ksk ksk′ bsk bsk′ bs ins g) → ciphersOf p ksk bsk bs ins ≡ ciphersOf p ksk′ bsk′ bs ins
+  unread h = wires-alike (gates bs) h
