@@ -1,0 +1,82 @@
+/* A small circuit on encrypted bits: the sum of two bits and a carry. Builds its bytes, runs it on every input, plain and encrypted, and
+ * prints both. The keys come from the system's random source, at a practice set that gives no secrecy. */
+#include "egl.h"
+
+#include <stdio.h>
+#include <stdlib.h>
+
+enum { n = 20, nbit = 7, bgbit = 7, l = 3, basebit = 3, t = 5 };
+enum { N = 1 << nbit, base = 1 << basebit, inputs = 3, gates = 3, outputs = 2, ciphertext = n + 1 };
+enum { drawing = N * t * (base - 1), ksk_len = N * t * base * ciphertext, bsk_masks = n * 2 * l * N, bsk_len = 2 * bsk_masks };
+#define P n, nbit, bgbit, l, basebit, t
+
+/* Wires 0, 1, 2 are a, b and the carry c; 3 = a xor b, 4 = (a xor b) xor c is the sum, 5 = c where a and b differ, else a, is the next carry. */
+static const uint8_t adder[] = {
+    'E', 'G', 'L', 1, 0, inputs, 0, gates, 0, outputs, 0,
+    7, 0, 0, 0, 1, 0, 0, 0,
+    7, 0, 3, 0, 2, 0, 0, 0,
+    13, 0, 3, 0, 2, 0, 0, 0,
+    4, 0, 5, 0,
+};
+
+static FILE *source;
+
+static uint32_t key0[n], key1[N], ksk[ksk_len], bsk[bsk_len];
+static uint32_t masks[drawing * n > bsk_masks ? drawing * n : bsk_masks], noise[drawing > bsk_masks ? drawing : bsk_masks];
+static uint32_t ins[inputs * ciphertext], wires[(inputs + gates) * ciphertext], outs[outputs * ciphertext];
+
+static void draw(uint32_t *to, size_t count) {
+    if (fread(to, 4, count, source) != count) exit(3);
+}
+
+/* From -8 to 7 units of 2^-32: enough for a practice set, and no more than that. */
+static void draw_noise(uint32_t *to, size_t count) {
+    draw(to, count);
+    for (size_t i = 0; i < count; i++) to[i] = (to[i] & 15) - 8;
+}
+
+static egl_answer done(const char *what, egl_answer a) {
+    if (EGL_NUMBER(a) != 0) {
+        printf("%s: refused %u at %u\n", what, EGL_NUMBER(a), EGL_PLACE(a));
+        exit(1);
+    }
+    return a;
+}
+
+int main(void) {
+    source = fopen("/dev/urandom", "rb");
+    if (!source) return 3;
+    draw(key0, n);
+    draw(key1, N);
+    for (size_t i = 0; i < n; i++) key0[i] &= 1;
+    for (size_t i = 0; i < N; i++) key1[i] &= 1;
+    draw(masks, (size_t)drawing * n);
+    draw_noise(noise, drawing);
+    done("switching key", egl_key_gen_key_switching_key(P, key0, n, key1, N, masks, (size_t)drawing * n, noise, drawing, ksk, ksk_len));
+    draw(masks, bsk_masks);
+    draw_noise(noise, bsk_masks);
+    done("bootstrapping key", egl_trgsw_gen_bootstrapping_key(P, key0, n, key1, N, masks, bsk_masks, noise, bsk_masks, bsk, bsk_len));
+
+    int wrong = 0;
+    printf("work %u\na b c  sum carry\n", EGL_VALUE(done("work", egl_circuit_work(adder, sizeof adder))));
+    for (unsigned row = 0; row < 1u << inputs; row++) {
+        uint8_t bits[inputs], meant[outputs];
+        for (unsigned i = 0; i < inputs; i++) {
+            bits[i] = row >> i & 1;
+            draw(masks, n);
+            draw_noise(noise, 1);
+            done("encryption", egl_tlwe_encrypt_bit_lv0(P, bits[i], masks, n, noise[0], key0, n, ins + i * ciphertext, ciphertext));
+        }
+        done("plain run", egl_circuit_run_plain(adder, sizeof adder, bits, inputs, meant, outputs));
+        done("encrypted run", egl_circuit_run_encrypted(P, ksk, ksk_len, bsk, bsk_len, adder, sizeof adder, ins, inputs * ciphertext, wires, (inputs + gates) * ciphertext, outs, outputs * ciphertext));
+        printf("%u %u %u ", bits[0], bits[1], bits[2]);
+        for (unsigned o = 0; o < outputs; o++) {
+            uint32_t got = EGL_VALUE(done("decryption", egl_tlwe_decrypt_bit_lv0(P, outs + o * ciphertext, ciphertext, key0, n)));
+            wrong += got != meant[o];
+            printf(" %u%s ", got, got == meant[o] ? "  " : "! ");
+        }
+        printf("\n");
+    }
+    printf("%d of %d wrong\n", wrong, outputs << inputs);
+    return wrong != 0;
+}
