@@ -1,0 +1,155 @@
+//! The functions of include/egl.h that the wrapper calls, each behind a safe function on slices. The only unsafe code of the crate is here.
+//!
+//! Why each call is sound. A buffer crosses as a slice's own pointer and length, so it is valid and aligned for that many elements and never
+//! null, an empty slice's included. What is written to comes from a `&mut` slice, which no other slice of the call overlaps. Numbers may be
+//! anything: every function of the archive is proved to take any numbers and any lengths, and to touch nothing but the slices lent to
+//! it. It keeps no pointer, allocates nothing, and needs less than 64 KB of stack. What is left to trust is that the declarations below say
+//! what the archive's functions take; tests/wrapper/declarations.rs holds them against include/egl.h.
+#![allow(unsafe_code)]
+
+use crate::Params;
+
+#[rustfmt::skip]
+extern "C" {
+    fn egl_params_check(n: u32, nbit: u32, bgbit: u32, l: u32, basebit: u32, t: u32) -> u64;
+
+    fn egl_tlwe_encrypt_bit_lv0(n: u32, nbit: u32, bgbit: u32, l: u32, basebit: u32, t: u32, bit: u32, masks: *const u32, masks_len: usize, noise: u32, key: *const u32, key_len: usize, out: *mut u32, out_len: usize) -> u64;
+    fn egl_tlwe_encrypt_turn_lv0(n: u32, nbit: u32, bgbit: u32, l: u32, basebit: u32, t: u32, turn: f64, masks: *const u32, masks_len: usize, noise: u32, key: *const u32, key_len: usize, out: *mut u32, out_len: usize) -> u64;
+    fn egl_tlwe_encrypt_message_lv0(n: u32, nbit: u32, bgbit: u32, l: u32, basebit: u32, t: u32, value: u64, modulus: u64, masks: *const u32, masks_len: usize, noise: u32, key: *const u32, key_len: usize, out: *mut u32, out_len: usize) -> u64;
+    fn egl_tlwe_decrypt_bit_lv0(n: u32, nbit: u32, bgbit: u32, l: u32, basebit: u32, t: u32, c: *const u32, c_len: usize, key: *const u32, key_len: usize) -> u64;
+    fn egl_tlwe_decrypt_message_lv0(n: u32, nbit: u32, bgbit: u32, l: u32, basebit: u32, t: u32, modulus: u64, c: *const u32, c_len: usize, key: *const u32, key_len: usize) -> u64;
+
+    fn egl_key_gen_key_switching_key(n: u32, nbit: u32, bgbit: u32, l: u32, basebit: u32, t: u32, key_lv0: *const u32, key_lv0_len: usize, key_lv1: *const u32, key_lv1_len: usize, masks: *const u32, masks_len: usize, noise: *const u32, noise_len: usize, out: *mut u32, out_len: usize) -> u64;
+    fn egl_trgsw_gen_bootstrapping_key(n: u32, nbit: u32, bgbit: u32, l: u32, basebit: u32, t: u32, key_lv0: *const u32, key_lv0_len: usize, key_lv1: *const u32, key_lv1_len: usize, masks: *const u32, masks_len: usize, noise: *const u32, noise_len: usize, out: *mut u32, out_len: usize) -> u64;
+    fn egl_key_switching_row_answer(n: u32, nbit: u32, bgbit: u32, l: u32, basebit: u32, t: u32, words: usize, i: usize, j: usize, k: usize) -> u64;
+    fn egl_key_row_index(n: u32, nbit: u32, bgbit: u32, l: u32, basebit: u32, t: u32, i: u32, j: u32, k: u32) -> u32;
+
+    fn egl_gates_nand(n: u32, nbit: u32, bgbit: u32, l: u32, basebit: u32, t: u32, a: *const u32, a_len: usize, b: *const u32, b_len: usize, ksk: *const u32, ksk_len: usize, bsk: *const u32, bsk_len: usize, out: *mut u32, out_len: usize) -> u64;
+    fn egl_gates_or(n: u32, nbit: u32, bgbit: u32, l: u32, basebit: u32, t: u32, a: *const u32, a_len: usize, b: *const u32, b_len: usize, ksk: *const u32, ksk_len: usize, bsk: *const u32, bsk_len: usize, out: *mut u32, out_len: usize) -> u64;
+    fn egl_gates_and(n: u32, nbit: u32, bgbit: u32, l: u32, basebit: u32, t: u32, a: *const u32, a_len: usize, b: *const u32, b_len: usize, ksk: *const u32, ksk_len: usize, bsk: *const u32, bsk_len: usize, out: *mut u32, out_len: usize) -> u64;
+    fn egl_gates_nor(n: u32, nbit: u32, bgbit: u32, l: u32, basebit: u32, t: u32, a: *const u32, a_len: usize, b: *const u32, b_len: usize, ksk: *const u32, ksk_len: usize, bsk: *const u32, bsk_len: usize, out: *mut u32, out_len: usize) -> u64;
+    fn egl_gates_and_ny(n: u32, nbit: u32, bgbit: u32, l: u32, basebit: u32, t: u32, a: *const u32, a_len: usize, b: *const u32, b_len: usize, ksk: *const u32, ksk_len: usize, bsk: *const u32, bsk_len: usize, out: *mut u32, out_len: usize) -> u64;
+    fn egl_gates_and_yn(n: u32, nbit: u32, bgbit: u32, l: u32, basebit: u32, t: u32, a: *const u32, a_len: usize, b: *const u32, b_len: usize, ksk: *const u32, ksk_len: usize, bsk: *const u32, bsk_len: usize, out: *mut u32, out_len: usize) -> u64;
+    fn egl_gates_or_ny(n: u32, nbit: u32, bgbit: u32, l: u32, basebit: u32, t: u32, a: *const u32, a_len: usize, b: *const u32, b_len: usize, ksk: *const u32, ksk_len: usize, bsk: *const u32, bsk_len: usize, out: *mut u32, out_len: usize) -> u64;
+    fn egl_gates_or_yn(n: u32, nbit: u32, bgbit: u32, l: u32, basebit: u32, t: u32, a: *const u32, a_len: usize, b: *const u32, b_len: usize, ksk: *const u32, ksk_len: usize, bsk: *const u32, bsk_len: usize, out: *mut u32, out_len: usize) -> u64;
+    fn egl_gates_xor(n: u32, nbit: u32, bgbit: u32, l: u32, basebit: u32, t: u32, a: *const u32, a_len: usize, b: *const u32, b_len: usize, ksk: *const u32, ksk_len: usize, bsk: *const u32, bsk_len: usize, out: *mut u32, out_len: usize) -> u64;
+    fn egl_gates_xnor(n: u32, nbit: u32, bgbit: u32, l: u32, basebit: u32, t: u32, a: *const u32, a_len: usize, b: *const u32, b_len: usize, ksk: *const u32, ksk_len: usize, bsk: *const u32, bsk_len: usize, out: *mut u32, out_len: usize) -> u64;
+    fn egl_gates_mux(n: u32, nbit: u32, bgbit: u32, l: u32, basebit: u32, t: u32, a: *const u32, a_len: usize, b: *const u32, b_len: usize, c: *const u32, c_len: usize, ksk: *const u32, ksk_len: usize, bsk: *const u32, bsk_len: usize, out: *mut u32, out_len: usize) -> u64;
+    fn egl_gates_mux_naive(n: u32, nbit: u32, bgbit: u32, l: u32, basebit: u32, t: u32, a: *const u32, a_len: usize, b: *const u32, b_len: usize, c: *const u32, c_len: usize, ksk: *const u32, ksk_len: usize, bsk: *const u32, bsk_len: usize, out: *mut u32, out_len: usize) -> u64;
+    fn egl_gates_not(n: u32, nbit: u32, bgbit: u32, l: u32, basebit: u32, t: u32, a: *const u32, a_len: usize, out: *mut u32, out_len: usize) -> u64;
+    fn egl_gates_copy(n: u32, nbit: u32, bgbit: u32, l: u32, basebit: u32, t: u32, a: *const u32, a_len: usize, out: *mut u32, out_len: usize) -> u64;
+    fn egl_gates_constant(n: u32, nbit: u32, bgbit: u32, l: u32, basebit: u32, t: u32, bit: u32, out: *mut u32, out_len: usize) -> u64;
+
+    fn egl_circuit_check(bytes: *const u8, bytes_len: usize) -> u64;
+    fn egl_circuit_work(bytes: *const u8, bytes_len: usize) -> u64;
+    fn egl_circuit_run_plain(bytes: *const u8, bytes_len: usize, ins: *const u8, ins_len: usize, out: *mut u8, out_len: usize) -> u64;
+}
+
+#[cfg(feature = "encrypted_run")]
+#[rustfmt::skip]
+extern "C" {
+    fn egl_circuit_run_encrypted(n: u32, nbit: u32, bgbit: u32, l: u32, basebit: u32, t: u32, ksk: *const u32, ksk_len: usize, bsk: *const u32, bsk_len: usize, bytes: *const u8, bytes_len: usize, ins: *const u32, ins_len: usize, wires: *mut u32, wires_len: usize, out: *mut u32, out_len: usize) -> u64;
+    fn egl_circuit_run_gate(n: u32, nbit: u32, bgbit: u32, l: u32, basebit: u32, t: u32, ksk: *const u32, ksk_len: usize, bsk: *const u32, bsk_len: usize, bytes: *const u8, bytes_len: usize, g: usize, wires: *mut u32, wires_len: usize) -> u64;
+}
+
+/// The two keys of a gate, as they cross.
+#[derive(Clone, Copy)]
+pub(crate) struct Cloud<'a> {
+    pub switching: &'a [u32],
+    pub bootstrapping: &'a [u32],
+}
+
+/// What a safe function takes for an argument of each sort.
+macro_rules! taken {
+    (words) => { &[u32] };
+    (written) => { &mut [u32] };
+    (bytes) => { &[u8] };
+    (cloud) => { Cloud<'_> };
+    (bit) => { bool };
+    ($number:ident) => { $number };
+}
+
+/// Safe functions over the archive's. Each argument is named with its sort: `words` and `bytes` are slices to read, `written` a slice to write,
+/// `cloud` both keys, `bit` a bit, anything else a number that crosses as it is.
+macro_rules! safe {
+    ($($name:ident = $c:ident($($arg:ident: $sort:ident),*);)*) => { $(
+        #[allow(clippy::too_many_arguments)]
+        pub(crate) fn $name(p: Params, $($arg: taken!($sort)),*) -> u64 {
+            call!($c [p.n, p.nbit, p.bgbit, p.l, p.basebit, p.t] $($arg: $sort,)*)
+        }
+    )* };
+}
+
+/// The call itself: the arguments passed so far, then those still to be turned into what C takes.
+macro_rules! call {
+    ($c:ident [$($passed:expr),*] $a:ident: written, $($rest:tt)*) => { call!($c [$($passed,)* $a.as_mut_ptr(), $a.len()] $($rest)*) };
+    ($c:ident [$($passed:expr),*] $a:ident: words, $($rest:tt)*) => { call!($c [$($passed,)* $a.as_ptr(), $a.len()] $($rest)*) };
+    ($c:ident [$($passed:expr),*] $a:ident: bytes, $($rest:tt)*) => { call!($c [$($passed,)* $a.as_ptr(), $a.len()] $($rest)*) };
+    ($c:ident [$($passed:expr),*] $a:ident: cloud, $($rest:tt)*) => {
+        call!($c [$($passed,)* $a.switching.as_ptr(), $a.switching.len(), $a.bootstrapping.as_ptr(), $a.bootstrapping.len()] $($rest)*)
+    };
+    ($c:ident [$($passed:expr),*] $a:ident: bit, $($rest:tt)*) => { call!($c [$($passed,)* u32::from($a)] $($rest)*) };
+    ($c:ident [$($passed:expr),*] $a:ident: $number:ident, $($rest:tt)*) => { call!($c [$($passed,)* $a] $($rest)*) };
+    ($c:ident [$($passed:expr),*]) => {
+        // SAFETY: each pointer goes with its own slice's length, written slices are `&mut`, and the function takes any such slices and any
+        // numbers (see the head of this file).
+        unsafe { $c($($passed),*) }
+    };
+}
+
+safe! {
+    params_check = egl_params_check();
+
+    encrypt_bit = egl_tlwe_encrypt_bit_lv0(value: bit, masks: words, noise: u32, key: words, out: written);
+    encrypt_turn = egl_tlwe_encrypt_turn_lv0(turn: f64, masks: words, noise: u32, key: words, out: written);
+    encrypt_message = egl_tlwe_encrypt_message_lv0(value: u64, modulus: u64, masks: words, noise: u32, key: words, out: written);
+    decrypt_bit = egl_tlwe_decrypt_bit_lv0(ciphertext: words, key: words);
+    decrypt_message = egl_tlwe_decrypt_message_lv0(modulus: u64, ciphertext: words, key: words);
+
+    switching_key = egl_key_gen_key_switching_key(key0: words, key1: words, masks: words, noise: words, out: written);
+    bootstrapping_key = egl_trgsw_gen_bootstrapping_key(key0: words, key1: words, masks: words, noise: words, out: written);
+    switching_row_answer = egl_key_switching_row_answer(length: usize, i: usize, j: usize, k: usize);
+
+    nand = egl_gates_nand(a: words, b: words, key: cloud, out: written);
+    or = egl_gates_or(a: words, b: words, key: cloud, out: written);
+    and = egl_gates_and(a: words, b: words, key: cloud, out: written);
+    nor = egl_gates_nor(a: words, b: words, key: cloud, out: written);
+    and_ny = egl_gates_and_ny(a: words, b: words, key: cloud, out: written);
+    and_yn = egl_gates_and_yn(a: words, b: words, key: cloud, out: written);
+    or_ny = egl_gates_or_ny(a: words, b: words, key: cloud, out: written);
+    or_yn = egl_gates_or_yn(a: words, b: words, key: cloud, out: written);
+    xor = egl_gates_xor(a: words, b: words, key: cloud, out: written);
+    xnor = egl_gates_xnor(a: words, b: words, key: cloud, out: written);
+    mux = egl_gates_mux(a: words, b: words, c: words, key: cloud, out: written);
+    mux_naive = egl_gates_mux_naive(a: words, b: words, c: words, key: cloud, out: written);
+    not = egl_gates_not(a: words, out: written);
+    copy = egl_gates_copy(a: words, out: written);
+    constant = egl_gates_constant(value: bit, out: written);
+}
+
+#[cfg(feature = "encrypted_run")]
+safe! {
+    run_encrypted = egl_circuit_run_encrypted(key: cloud, circuit: bytes, ins: words, wires: written, out: written);
+    run_gate = egl_circuit_run_gate(key: cloud, circuit: bytes, gate: usize, wires: written);
+}
+
+/// The place of a row of the switching key among its rows; a number for any indices at all.
+pub(crate) fn switching_row_index(p: Params, i: u32, j: u32, k: u32) -> u32 {
+    // SAFETY: numbers alone cross, and the function takes any.
+    unsafe { egl_key_row_index(p.n, p.nbit, p.bgbit, p.l, p.basebit, p.t, i, j, k) }
+}
+
+pub(crate) fn circuit_check(bytes: &[u8]) -> u64 {
+    // SAFETY: pointer and length are those of one slice, which is only read.
+    unsafe { egl_circuit_check(bytes.as_ptr(), bytes.len()) }
+}
+
+pub(crate) fn circuit_work(bytes: &[u8]) -> u64 {
+    // SAFETY: pointer and length are those of one slice, which is only read.
+    unsafe { egl_circuit_work(bytes.as_ptr(), bytes.len()) }
+}
+
+pub(crate) fn circuit_run_plain(bytes: &[u8], ins: &[u8], out: &mut [u8]) -> u64 {
+    // SAFETY: each pointer and length are those of one slice, and `out` is `&mut`, so the others do not overlap it.
+    unsafe { egl_circuit_run_plain(bytes.as_ptr(), bytes.len(), ins.as_ptr(), ins.len(), out.as_mut_ptr(), out.len()) }
+}

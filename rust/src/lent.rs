@@ -1,0 +1,59 @@
+//! Encryption, decryption and generation of keys with everything lent: masks, noise, keys and the place of the result. Nothing is
+//! allocated and nothing is drawn. [`Params::lengths`] tells how long each slice has to be.
+//!
+//! Masks have to be uniform and secret keys uniform bits, each drawn once; the noise hides the message. That is the caller's part:
+//! [`SecretKeys`](crate::SecretKeys) and [`OwnedCloudKey`](crate::OwnedCloudKey) do it from a random source.
+
+use crate::{ffi, Params, Refusal};
+
+fn done(answer: u64) -> Result<(), Refusal> {
+    Refusal::of_answer(answer).map(|_| ())
+}
+
+/// Encrypts a bit, as -1/8 (false) or 1/8 (true) of a turn: `out` becomes the masks and then b = masks * key + word + noise.
+///
+/// `masks` and `key` have n words, `out` n + 1. Refusals: 1, 2, 4.
+pub fn encrypt_bit(params: Params, bit: bool, masks: &[u32], noise: u32, key: &[u32], out: &mut [u32]) -> Result<(), Refusal> {
+    done(ffi::encrypt_bit(params, bit, masks, noise, key, out))
+}
+
+/// Encrypts a fraction of a turn; a number that is not finite counts as 0.
+///
+/// `masks` and `key` have n words, `out` n + 1. Refusals: 1, 2, 4.
+pub fn encrypt_turn(params: Params, turn: f64, masks: &[u32], noise: u32, key: &[u32], out: &mut [u32]) -> Result<(), Refusal> {
+    done(ffi::encrypt_turn(params, turn, masks, noise, key, out))
+}
+
+/// Encrypts a message, `value` modulo `modulus` (2, 4, 8, 16, 32 or 64), as that multiple of 1/(2 * modulus) of a turn.
+///
+/// `masks` and `key` have n words, `out` n + 1. Refusals: 1, 2, 4, 5.
+#[allow(clippy::too_many_arguments)]
+pub fn encrypt_message(params: Params, value: u64, modulus: u64, masks: &[u32], noise: u32, key: &[u32], out: &mut [u32]) -> Result<(), Refusal> {
+    done(ffi::encrypt_message(params, value, modulus, masks, noise, key, out))
+}
+
+/// The bit of a ciphertext of n + 1 words under a key of n words. Refusals: 1, 2, 4.
+pub fn decrypt_bit(params: Params, ciphertext: &[u32], key: &[u32]) -> Result<bool, Refusal> {
+    Refusal::of_answer(ffi::decrypt_bit(params, ciphertext, key)).map(|value| value != 0)
+}
+
+/// The message of a ciphertext of n + 1 words under a key of n words; it is below `modulus`. Refusals: 1, 2, 4, 5.
+pub fn decrypt_message(params: Params, modulus: u64, ciphertext: &[u32], key: &[u32]) -> Result<u32, Refusal> {
+    Refusal::of_answer(ffi::decrypt_message(params, modulus, ciphertext, key))
+}
+
+/// Makes the switching key. Masks and noise are used in row order; the rows that carry nothing draw none.
+///
+/// `level0` has n words, `level1` N; the others are `switching_masks`, `switching_noise` and `switching_key` of
+/// [`Lengths`](crate::Lengths). Refusals: 1, 2, 4.
+pub fn switching_key(params: Params, level0: &[u32], level1: &[u32], masks: &[u32], noise: &[u32], out: &mut [u32]) -> Result<(), Refusal> {
+    done(ffi::switching_key(params, level0, level1, masks, noise, out))
+}
+
+/// Makes the bootstrapping key: for each bit of `level0` 2l rows of 2N words.
+///
+/// `level0` has n words, `level1` N; the others are `bootstrapping_masks`, `bootstrapping_noise` and `bootstrapping_key` of
+/// [`Lengths`](crate::Lengths). Refusals: 1, 2, 4.
+pub fn bootstrapping_key(params: Params, level0: &[u32], level1: &[u32], masks: &[u32], noise: &[u32], out: &mut [u32]) -> Result<(), Refusal> {
+    done(ffi::bootstrapping_key(params, level0, level1, masks, noise, out))
+}

@@ -1,0 +1,66 @@
+//! Safe Rust over `libegl_c.a`, the proved evaluator of encrypted gates.
+//!
+//! The archive does the work and is proved: every call takes any numbers and any slices, does its work or gives one of ten numbered
+//! refusals, and a refused call has written to none of the memory lent to it. This crate turns lengths and pointers into slices, numbers into
+//! [`Refusal`], and adds what the archive leaves to its caller: memory, random numbers and noise. What it adds is ordinary Rust and not
+//! proved: [`Random`], [`Noise`] and the drawing of keys, [`Builder`], and the order in which [`Circuit`] and its runner lend slices.
+//!
+//! Two ways to call:
+//!
+//! * everything lent: [`lent`] for encryption, decryption and generation of keys, [`CloudKey`] for gates. Nothing is allocated or drawn.
+//! * drawn and owned: [`SecretKeys`] and [`OwnedCloudKey`] draw keys, masks and noise from a source that the caller gives.
+//!
+//! ```no_run
+//! use egl::{sets, Gate, OwnedCloudKey, SecretKeys, SystemRandom};
+//!
+//! fn main() -> Result<(), Box<dyn std::error::Error>> {
+//!     let set = sets::SECURITY_128;
+//!     let mut random = SystemRandom::open()?;
+//!     let secret = SecretKeys::draw(set.params, &mut random)?;
+//!     let cloud = OwnedCloudKey::draw(&secret, set.noise, &mut random)?;
+//!     let a = secret.encrypt_bit(true, set.noise, &mut random)?;
+//!     let b = secret.encrypt_bit(false, set.noise, &mut random)?;
+//!     let out = cloud.view().evaluate(Gate::Nand, &[&a, &b])?;
+//!     assert!(secret.decrypt_bit(&out)?);
+//!     Ok(())
+//! }
+//! ```
+//!
+//! A ciphertext is a slice of n + 1 words (`u32`, each counting 2^-32 of a turn), the last of which is b.
+//!
+//! No call of this crate panics, whatever it is given. The time that drawing takes depends on what is drawn, and memory that held
+//! secret keys is not wiped.
+
+#![deny(missing_docs, unsafe_code, unsafe_op_in_unsafe_fn)]
+#![deny(clippy::unwrap_used, clippy::expect_used, clippy::panic, clippy::indexing_slicing, clippy::arithmetic_side_effects)]
+
+mod builder;
+mod circuit;
+mod cloud;
+mod error;
+mod ffi;
+mod gate;
+mod kind;
+pub mod lent;
+mod noise;
+mod params;
+mod random;
+mod refusal;
+#[cfg(feature = "encrypted_run")]
+mod run;
+mod secret;
+pub mod sets;
+
+pub use builder::{Builder, Wire};
+pub use circuit::Circuit;
+pub use cloud::{CloudKey, OwnedCloudKey};
+pub use error::Error;
+pub use gate::Gate;
+pub use kind::Kind;
+pub use noise::Noise;
+pub use params::{Lengths, Params};
+pub use random::{Random, SystemRandom};
+pub use refusal::Refusal;
+#[cfg(feature = "encrypted_run")]
+pub use run::{Progress, Run};
+pub use secret::SecretKeys;

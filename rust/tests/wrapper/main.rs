@@ -1,0 +1,13 @@
+//! The wrapper's tests. They run at small parameter sets and with fixed seeds, so that a failure can be repeated.
+
+mod builder;
+mod circuits;
+mod declarations;
+#[cfg(feature = "encrypted_run")]
+mod encrypted_runs;
+mod gates;
+mod keys;
+mod noise;
+mod refusals;
+mod seeded;
+mod sets;
