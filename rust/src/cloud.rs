@@ -142,7 +142,6 @@ impl<'a> CloudKey<'a> {
         self.keys.switching.chunks_exact(self.lengths.ciphertext).nth(row).ok_or(Refusal::Index)
     }
 
-    #[cfg(feature = "encrypted_run")]
     pub(crate) fn keys(&self) -> ffi::Cloud<'a> {
         self.keys
     }

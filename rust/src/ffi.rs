@@ -43,11 +43,6 @@ extern "C" {
     fn egl_circuit_check(bytes: *const u8, bytes_len: usize) -> u64;
     fn egl_circuit_work(bytes: *const u8, bytes_len: usize) -> u64;
     fn egl_circuit_run_plain(bytes: *const u8, bytes_len: usize, ins: *const u8, ins_len: usize, out: *mut u8, out_len: usize) -> u64;
-}
-
-#[cfg(feature = "encrypted_run")]
-#[rustfmt::skip]
-extern "C" {
     fn egl_circuit_run_encrypted(n: u32, nbit: u32, bgbit: u32, l: u32, basebit: u32, t: u32, ksk: *const u32, ksk_len: usize, bsk: *const u32, bsk_len: usize, bytes: *const u8, bytes_len: usize, ins: *const u32, ins_len: usize, wires: *mut u32, wires_len: usize, out: *mut u32, out_len: usize) -> u64;
     fn egl_circuit_run_gate(n: u32, nbit: u32, bgbit: u32, l: u32, basebit: u32, t: u32, ksk: *const u32, ksk_len: usize, bsk: *const u32, bsk_len: usize, bytes: *const u8, bytes_len: usize, g: usize, wires: *mut u32, wires_len: usize) -> u64;
 }
@@ -125,10 +120,7 @@ safe! {
     not = egl_gates_not(a: words, out: written);
     copy = egl_gates_copy(a: words, out: written);
     constant = egl_gates_constant(value: bit, out: written);
-}
 
-#[cfg(feature = "encrypted_run")]
-safe! {
     run_encrypted = egl_circuit_run_encrypted(key: cloud, circuit: bytes, ins: words, wires: written, out: written);
     run_gate = egl_circuit_run_gate(key: cloud, circuit: bytes, gate: usize, wires: written);
 }

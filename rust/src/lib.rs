@@ -46,7 +46,6 @@ mod noise;
 mod params;
 mod random;
 mod refusal;
-#[cfg(feature = "encrypted_run")]
 mod run;
 mod secret;
 pub mod sets;
@@ -61,6 +60,5 @@ pub use noise::Noise;
 pub use params::{Lengths, Params};
 pub use random::{Random, SystemRandom};
 pub use refusal::Refusal;
-#[cfg(feature = "encrypted_run")]
 pub use run::{Progress, Run};
 pub use secret::SecretKeys;

@@ -45,6 +45,12 @@ fn wrong_operands_are_refused_at_their_place() {
     // An input that is not there.
     assert_eq!(refusal(Kind::Not, |b| vec![b.input(2)]), at(13));
     assert_eq!(refusal(Kind::Not, |b| vec![b.input(usize::MAX)]), at(13));
+    // An input that is not there, though a gate's wire by now has that number.
+    let mut builder = Builder::new(2);
+    builder.gate(Kind::True, &[]);
+    let out = builder.gate(Kind::Not, &[builder.input(2)]);
+    builder.output(out);
+    assert_eq!(builder.build().err(), at(21));
     // A wire of a larger circuit.
     let mut other = Builder::new(9);
     let far = other.gate(Kind::True, &[]);

@@ -3,7 +3,6 @@
 mod builder;
 mod circuits;
 mod declarations;
-#[cfg(feature = "encrypted_run")]
 mod encrypted_runs;
 mod gates;
 mod keys;
