@@ -19,7 +19,7 @@ declare! {
     #[cfg(group_tlwe)]
     fn egl_tlwe_encrypt_bit_lv0(bit: u32, masks: In, masks_len: usize, noise: u32, key: In, key_len: usize, out: Out, out_len: usize);
     #[cfg(group_tlwe)]
-    fn egl_tlwe_decrypt_bit_lv0(c: In, c_len: usize, key: In, key_len: usize, value: *mut u8, value_len: usize);
+    fn egl_tlwe_decrypt_bit_lv0(c: In, c_len: usize, key: In, key_len: usize);
     #[cfg(group_trgsw)]
     fn egl_trgsw_identity_key_switching(src: In, src_len: usize, key: In, key_len: usize, out: Out, out_len: usize);
     #[cfg(group_trgsw)]
@@ -53,9 +53,10 @@ pub fn encrypt_bit(p: &[u32; 6], bit: u32, masks: &[u32], noise: u32, key: &[u32
 
 #[cfg(group_tlwe)]
 pub fn decrypt_bit(p: &[u32; 6], c: &[u32], key: &[u32]) -> bool {
-    let mut value = 0u8;
-    done!(p, egl_tlwe_decrypt_bit_lv0(c.as_ptr(), c.len(), key.as_ptr(), key.len(), &mut value, 1));
-    value != 0
+    let answer = unsafe { egl_tlwe_decrypt_bit_lv0(p[0], p[1], p[2], p[3], p[4], p[5], c.as_ptr(), c.len(), key.as_ptr(), key.len()) };
+    // the bit stands in the high half
+    assert_eq!(answer as u32, 0, "the library refused");
+    answer >> 32 != 0
 }
 
 #[cfg(group_trgsw)]

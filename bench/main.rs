@@ -99,15 +99,32 @@ fn rotations() {
     ];
     table("External product at the 128-bit set", ways, 200, "twelve products");
 
-    let (mut x, mut y, mut o, mut out) = (vec![0; N], vec![0; N], vec![0; N], vec![0; n + 1]);
-    let (c, d) = (words(n + 1, 13), words(n + 1, 14));
-    let mut ways = vec![
+    let (mut x, mut y, mut o) = (vec![0; N], vec![0; N], vec![0; N]);
+    let ways = vec![
         way("8,400 products", || (0..8400).for_each(|_| library::poly_mul_add(black_box(&SET), black_box(&a), black_box(&b), &mut o))),
         way("blind rotation", || library::blind_rotate(black_box(&SET), black_box(&src), black_box(&key), &mut x, &mut y)),
     ];
-    #[cfg(group_gates)]
-    ways.push(way("nand", || library::nand(black_box(&SET), black_box(&c), black_box(&d), black_box(&switching), black_box(&key), &mut out)));
-    table("Blind rotation at the 128-bit set; bar: at most 1.15 of its products (a gate 1.2)", ways, 3, "8,400 products");
+    table("Blind rotation at the 128-bit set; bar: at most 1.15 of its products", ways, 5, "8,400 products");
+}
+
+#[cfg(group_gates)]
+fn gate() {
+    let n = SET[0] as usize;
+    let (a, b) = (words(N, 7), words(N, 8));
+    let (key, switching, long) = (words(n * 12 * N, 9), words(4 * 9 * N * (n + 1), 11), words(N + 1, 12));
+    let (c, d) = (words(n + 1, 13), words(n + 1, 14));
+    let digits: Vec<u32> = a.iter().map(|x| (x & 63).wrapping_sub(32)).collect();
+    let turn = transform::Transform::new(N);
+    let (mut o, mut o2, mut s, mut out) = (vec![0; N], vec![0; N], vec![0; n + 1], vec![0; n + 1]);
+    let ways = vec![
+        way("8,400 products and a switching", || {
+            (0..8400).for_each(|_| library::poly_mul_add(black_box(&SET), black_box(&a), black_box(&b), &mut o));
+            library::switch(black_box(&SET), black_box(&long), black_box(&switching), &mut s);
+        }),
+        way("nand", || library::nand(black_box(&SET), black_box(&c), black_box(&d), black_box(&switching), black_box(&key), &mut out)),
+        way("8,400 products by a transform in doubles", || (0..8400).for_each(|_| turn.product(black_box(&digits), black_box(&b), &mut o2))),
+    ];
+    table("A gate at the 128-bit set; bar: at most 1.2 of its products and its switching", ways, 5, "8,400 products and a switching");
 }
 
 fn main() {
@@ -125,5 +142,9 @@ fn main() {
     #[cfg(group_trgsw)]
     if wanted("trgsw") {
         rotations();
+    }
+    #[cfg(group_gates)]
+    if wanted("gates") {
+        gate();
     }
 }
