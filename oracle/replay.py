@@ -3,9 +3,10 @@
 
     oracle/run sample GROUP COUNT | oracle/replay.py GROUP
 
-writes crates/replay/src/GROUP.rt, a function for each case of the list, and target/replay/GROUP.out, what they must print, in which the expected
-numbers are the list's. Join the groups' outputs to crates/replay/stdout in the order in which main calls the groups. Cases with an empty slice or
-with more than 70 numbers are left out.
+writes crates/replay/src/GROUP_cases.rt, a function for each case, and target/replay/GROUP.out, what they must print, in which the expected numbers are the
+list's. Join the groups' outputs to crates/replay/stdout in the order in which main calls the groups. A case calls the routine that the exported function
+of its name calls, as crates/egl_c/src has it. Each case costs about a second of every check, so one is taken of each routine, the list's first, and of
+a routine's two levels one, in turn. Cases with an empty slice or with more than 70 numbers are left out.
 """
 import glob
 import os
@@ -13,83 +14,99 @@ import re
 import sys
 
 MOST = 70
+SIX = ["n", "nbit", "bgbit", "l", "basebit", "t"]
+PATHS = {"Level": "tlwe::Level", "Plain": "tlwe::Plain", "Torus": "utils::Torus", "Amount": "utils::Amount"}
 
 
-def signatures():
+def exported():
+    """For each exported function: its arguments after the six numbers, the call that it makes, and the value beside the answer."""
     found = {}
     for path in glob.glob("crates/egl_c/src/*.rt"):
-        module = os.path.basename(path)[:-3]
-        text = open(path).read()
-        for m in re.finditer(r'pub extern "C" fn egl_(\w+)\((.*?)\)\s*->\s*(\w+)', text, re.S):
-            kinds = [a.split(":", 1)[1].strip() for a in m.group(2).replace("\n", " ").split(",") if ":" in a]
-            found[m.group(1)] = (module, kinds, m.group(3))
+        for m in re.finditer(r'pub extern "C" fn egl_(\w+)\((.*?)\) -> u64.*?\n\{\n(.*?)\n\}\n', open(path).read(), re.S):
+            kinds = [tuple(x.strip() for x in a.split(":", 1)) for a in " ".join(m.group(2).split()).split(",") if ":" in a]
+            body = " ".join(m.group(3).split())
+            call, value = re.match(r"pack\((.*)\)$", body), None
+            if not call:
+                call = re.match(r"let (\w) = (.*?\)); let answer = \1\.answer; let (\w+) = (.*?); pack_with\(answer, (.*)\)$", body)
+                if not call:
+                    continue
+                value = "bit" if "bit_number" in call.group(4) else "wide" if "low_word" in call.group(4) else "amount" if call.group(3) == "amount" else "word"
+            text = call.group(1) if value is None else call.group(2)
+            text = re.sub(r"Params \{.*?\}", "SET", text)
+            found[m.group(1)] = ([k for k in kinds if k[0] not in SIX], text, value)
     return found
 
 
-def literal(kind, words):
-    if kind == "f64":
-        return [f"double(0x{w})" for w in words]
-    return [f"0x{w}" for w in words]
+def literal(kind, word):
+    return f"show::double(0x{word})" if kind == "f64" else f"0x{word}"
 
 
-def case(number, line, table):
+def put(text, given):
+    """The call with the values in the place of the exported function's parameters."""
+    text = re.sub(r"\{ (\w+), (\w+) \}", r"{ \1: \1, \2: \2 }", text)
+    text = re.sub(r"(?<![\w:.])(\w+)\b(?!\s*[:(])", lambda m: given.get(m.group(1), m.group(1)), text)
+    return re.sub(r"\b(\w+)(::\w+|\()", lambda m: PATHS.get(m.group(1), m.group(1)) + m.group(2), text)
+
+
+def case(line, kinds, call, value, sets):
     left, right = line.split("=>")
     fields = [f.strip().split() for f in left.split("|")]
-    name, numbers = fields[0][0], fields[0][1:]
-    module, kinds, _ = table[name]
+    name, numbers = fields[0][0], tuple(fields[0][1:])
     results = [f.strip().split() for f in right.split("|")]
-    body, given, shown, at = [], [f"0x{x}" for x in numbers], [], 1
-    for i, kind in enumerate(kinds[len(numbers):]):
-        words = fields[at]
-        at += 1
+    body, shown, given = [], [], {"SET": f"set_{sets.setdefault(numbers, len(sets))}()"}
+    for (argument, kind), words in zip(kinds, fields[1:]):
         m = re.match(r"&(mut )?\[(\w+)\]", kind)
         if not m:
-            given.append(literal(kind, words)[0])
+            given[argument] = literal(kind, words[0])
             continue
         if not words:
             return None
         change, element = m.group(1) or "", m.group(2)
-        body.append(f"    let {change}x{i}: [{element}; {len(words)}] = [{', '.join(literal(element, words))}];")
-        given.append(f"&{change}x{i}")
+        body.append(f"    let {change}{argument}: [{element}; {len(words)}] = [{', '.join(literal(element, w) for w in words)}];")
+        given[argument] = f"&{change}{argument}"
         if change:
-            shown.append((element, f"x{i}"))
-    out = [f"// {name}", f"fn case_{number}() {{"] + body
-    out.append(f"    let r = egl_c::{module}::egl_{name}({', '.join(given)});")
-    out.append(f'    show::answer(b"{name}", r);')
+            shown.append(("bytes" if element == "u8" else "words", argument))
+    out = [f"fn {name}() {{"] + body + [f"    let r = {put(call, given)};"]
     text = f"{name} {int(results[0][0], 16):08x}"
-    if shown:
-        for (element, x), words in zip(shown, results[1:]):
-            out.append(f"    show::{'bytes' if element == 'u8' else 'words'}(&{x});")
-            text += " |" + "".join(" %08x" % int(w, 16) for w in words)
+    if value:
+        out.append("    let answer = r.answer;")
+        out += ["    let amount = r.amount;"] if value == "amount" else []
+        how, x = ("word", "amount.0") if value == "amount" else (value, "r.value")
+        out.append(f'    show::{how}(b"{name}", answer, {x});')
+        text += " | %08x" % int(results[1][0], 16)
     else:
-        value = results[1][0] if len(results) > 1 and results[1] else "0"
-        out.append("    show::value(r);")
-        text += " | %08x" % int(value, 16)
-    out += ["    show::end();", "}", ""]
-    return out, text
+        how = shown[0][0] if len(shown) == 1 else "pair"
+        out.append(f'    show::{how}(b"{name}", r, {", ".join("&" + x for _, x in shown)});')
+        text += "".join(" |" + "".join(" %08x" % int(w, 16) for w in words) for words in results[1:])
+    return out + ["}", ""], text
 
 
 def main():
-    group = sys.argv[1]
-    table = signatures()
-    code, want, calls = [], [], []
+    group, table, sets = sys.argv[1], exported(), {}
+    first = {}
     for line in sys.stdin:
-        if "=>" not in line or len(line.split()) > MOST:
-            continue
-        name = line.split()[0]
-        if name not in table:
-            continue
-        made = case(len(calls), line, table)
-        if made is None:
-            continue
-        code += made[0]
-        want.append(made[1])
-        calls.append(f"    case_{len(calls)}();")
-    doubles = ["use super::show::double;"] if any("double(" in l for l in code) else []
-    head = [f"// Cases of the group {group}, made by oracle/replay.py from the list that the oracle samples."] + doubles + ["use super::show;", ""]
+        name = line.split()[0] if line.strip() else ""
+        if "=>" in line and len(line.split()) <= MOST and name in table:
+            first.setdefault(name, line)
+    code, want, calls, levels = [], [], [], 0
+    for name, line in first.items():
+        level = re.search(r"_lv([01])$", name)
+        if level:
+            levels += 1
+            if int(level.group(1)) != (levels - 1) // 2 % 2:
+                continue
+        made = case(line, *table[name], sets)
+        if made:
+            code += made[0]
+            want.append(made[1])
+            calls.append(f"    {name}();")
+    head = [f"// Cases of the group {group}, made by oracle/replay.py from the list that the oracle samples.", "use super::show;", "use params::Params;", ""]
+    for numbers, k in sets.items():
+        fields = ", ".join(f"{f}: 0x{x}" for f, x in zip(SIX, numbers))
+        head += [f"fn set_{k}() -> Params {{", f"    Params {{ {fields} }}", "}", ""]
     os.makedirs("crates/replay/src", exist_ok=True)
     os.makedirs("target/replay", exist_ok=True)
-    with open(f"crates/replay/src/{group}.rt", "w") as f:
+    with open(f"crates/replay/src/{group}_cases.rt", "w") as f:
         f.write("\n".join(head + code + ["pub fn run() {"] + calls + ["}"]) + "\n")
     with open(f"target/replay/{group}.out", "w") as f:
         f.write("\n".join(want) + "\n")

@@ -1,15 +1,50 @@
 // What a case prints: a line with the routine, the refusal's number, and the words of each slice that it was lent to write, or the value beside the answer.
+use params::Answer;
 
-// The routine and the number.
-pub fn answer(name: &[u8], r: u64) {
-    let _n = io::write_all(1, name);
-    hex(r % 0x1_0000_0000);
+// The routine, the number and the words of one slice.
+pub fn words(name: &[u8], r: Answer, s: &[u32]) {
+    answer(name, r);
+    all_words(s);
+    end();
 }
 
-// The value in the answer's high half.
-pub fn value(r: u64) {
+// The same of two slices.
+pub fn pair(name: &[u8], r: Answer, a: &[u32], b: &[u32]) {
+    answer(name, r);
+    all_words(a);
+    all_words(b);
+    end();
+}
+
+// The same of a slice of bytes.
+pub fn bytes(name: &[u8], r: Answer, s: &[u8]) {
+    answer(name, r);
+    all_bytes(s);
+    end();
+}
+
+// The routine, the number and a word.
+pub fn word(name: &[u8], r: Answer, x: u32) {
+    wide(name, r, x as u64);
+}
+
+// The same of a bit.
+pub fn bit(name: &[u8], r: Answer, b: bool) {
+    wide(name, r, b as u64);
+}
+
+// The same of the low half of a number of 64 bits.
+pub fn wide(name: &[u8], r: Answer, x: u64) {
+    answer(name, r);
     bar();
-    hex(r / 0x1_0000_0000);
+    hex(x % 0x1_0000_0000);
+    end();
+}
+
+// The routine and the number.
+fn answer(name: &[u8], r: Answer) {
+    let _n = io::write_all(1, name);
+    hex(r.number as u64);
 }
 
 // What stands before each slice.
@@ -24,37 +59,37 @@ fn hex(x: u64) {
 }
 
 // A word.
-fn word(x: u32) {
+fn one_word(x: u32) {
     hex(x as u64);
 }
 
 // A byte.
-fn byte(x: u8) {
+fn one_byte(x: u8) {
     hex(x as u64);
 }
 
 // The words of a slice.
-pub fn words(s: &[u32]) {
+fn all_words(s: &[u32]) {
     bar();
     let mut i = 0;
     while i < s.len() {
-        word(s[i]);
+        one_word(s[i]);
         i += 1;
     }
 }
 
 // The bytes of a slice.
-pub fn bytes(s: &[u8]) {
+fn all_bytes(s: &[u8]) {
     bar();
     let mut i = 0;
     while i < s.len() {
-        byte(s[i]);
+        one_byte(s[i]);
         i += 1;
     }
 }
 
 // The line's end.
-pub fn end() {
+fn end() {
     let _l = io::write_all(1, b"\n");
 }
 

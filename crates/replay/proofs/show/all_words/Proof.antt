@@ -1,10 +1,10 @@
--- `replay::show::bytes` meets its contract: i stays within the slice.
+-- `replay::show::all_words` meets its contract: i stays within the slice.
 -- Assumes nothing.
 use Prim.Native.Nat.{_-_, _≤_}
 use native.Mathlib.Omega.{arith}
 use lib.ListN.{length}
-use Rattle.replay.proofs.show.bytes.Statement.{statement}
-use Rattle.replay.proofs.show.bytes.Tie as tie
+use Rattle.replay.proofs.show.all_words.Statement.{statement}
+use Rattle.replay.proofs.show.all_words.Tie as tie
 
 abbrev Inv-loop : tie.InvT-loop
 Inv-loop s i₀ i = i ≤ length s
@@ -18,11 +18,14 @@ bar-requires c κs = tt
 loop-holds : tie.Need-loop-holds Inv-loop μ-loop
 loop-holds c = omega arith
 
-shared-slice-read-byte : tie.Need-shared-slice-read-byte Inv-loop μ-loop
-shared-slice-read-byte c = omega arith
+mul-one-word : tie.Need-mul-one-word Inv-loop μ-loop
+mul-one-word c = omega arith
 
-byte-requires : tie.Need-byte-requires Inv-loop μ-loop
-byte-requires c κs = tt
+shared-slice-read-one-word : tie.Need-shared-slice-read-one-word Inv-loop μ-loop
+shared-slice-read-one-word c = omega arith
+
+one-word-requires : tie.Need-one-word-requires Inv-loop μ-loop
+one-word-requires c κs = tt
 
 add-i : tie.Need-add-i Inv-loop μ-loop
 add-i c = omega arith
@@ -36,16 +39,17 @@ loop-again c = omega arith
 returns : tie.Need-returns Inv-loop μ-loop
 returns c = tt
 
-pub bytes-spec : {M : Type 1} → statement M
-bytes-spec =
+pub all-words-spec : {M : Type 1} → statement M
+all-words-spec =
     tie.close
     (tie.spec
     Inv-loop
     μ-loop
     bar-requires
     loop-holds
-    shared-slice-read-byte
-    byte-requires
+    mul-one-word
+    shared-slice-read-one-word
+    one-word-requires
     add-i
     loop-less
     loop-again

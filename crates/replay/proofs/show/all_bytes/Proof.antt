@@ -1,10 +1,10 @@
--- `replay::show::words` meets its contract: i stays within the slice.
+-- `replay::show::all_bytes` meets its contract: i stays within the slice.
 -- Assumes nothing.
 use Prim.Native.Nat.{_-_, _≤_}
 use native.Mathlib.Omega.{arith}
 use lib.ListN.{length}
-use Rattle.replay.proofs.show.words.Statement.{statement}
-use Rattle.replay.proofs.show.words.Tie as tie
+use Rattle.replay.proofs.show.all_bytes.Statement.{statement}
+use Rattle.replay.proofs.show.all_bytes.Tie as tie
 
 abbrev Inv-loop : tie.InvT-loop
 Inv-loop s i₀ i = i ≤ length s
@@ -18,14 +18,11 @@ bar-requires c κs = tt
 loop-holds : tie.Need-loop-holds Inv-loop μ-loop
 loop-holds c = omega arith
 
-mul-word : tie.Need-mul-word Inv-loop μ-loop
-mul-word c = omega arith
+shared-slice-read-one-byte : tie.Need-shared-slice-read-one-byte Inv-loop μ-loop
+shared-slice-read-one-byte c = omega arith
 
-shared-slice-read-word : tie.Need-shared-slice-read-word Inv-loop μ-loop
-shared-slice-read-word c = omega arith
-
-word-requires : tie.Need-word-requires Inv-loop μ-loop
-word-requires c κs = tt
+one-byte-requires : tie.Need-one-byte-requires Inv-loop μ-loop
+one-byte-requires c κs = tt
 
 add-i : tie.Need-add-i Inv-loop μ-loop
 add-i c = omega arith
@@ -39,17 +36,16 @@ loop-again c = omega arith
 returns : tie.Need-returns Inv-loop μ-loop
 returns c = tt
 
-pub words-spec : {M : Type 1} → statement M
-words-spec =
+pub all-bytes-spec : {M : Type 1} → statement M
+all-bytes-spec =
     tie.close
     (tie.spec
     Inv-loop
     μ-loop
     bar-requires
     loop-holds
-    mul-word
-    shared-slice-read-word
-    word-requires
+    shared-slice-read-one-byte
+    one-byte-requires
     add-i
     loop-less
     loop-again

@@ -1,0 +1,52 @@
+// Cases of the group key, made by oracle/replay.py from the list that the oracle samples.
+use super::show;
+use params::Params;
+
+fn set_0() -> Params {
+    Params {
+        n: 0x1,
+        nbit: 0x1,
+        bgbit: 0x1,
+        l: 0x1,
+        basebit: 0x1,
+        t: 0x1,
+    }
+}
+
+fn key_decomposition_offset() {
+    let r = key::decomposition_offset(set_0());
+    let answer = r.answer;
+    show::word(b"key_decomposition_offset", answer, r.value);
+}
+
+fn key_gen_testvec() {
+    let mut a: [u32; 2] = [0xf55b985f, 0xb7637a7f];
+    let mut b: [u32; 2] = [0x18429b35, 0x11e51774];
+    let r = key::gen_testvec(set_0(), &mut a, &mut b);
+    show::pair(b"key_gen_testvec", r, &a, &b);
+}
+
+fn key_gen_key_switching_key() {
+    let key_lv0: [u32; 1] = [0x0];
+    let key_lv1: [u32; 2] = [0x0, 0x1];
+    let masks: [u32; 2] = [0x1c9961bc, 0xbc7cd2d8];
+    let noise: [u32; 2] = [0x0, 0x82edccc2];
+    let mut out: [u32; 8] = [
+        0xa633092a,
+        0x7e6cc331,
+        0x600bb45,
+        0x38e87b0f,
+        0x3a336e86,
+        0x22062d17,
+        0x3330a5d1,
+        0xda055739,
+    ];
+    let r = key::gen_key_switching_key(set_0(), &key_lv0, &key_lv1, &masks, &noise, &mut out);
+    show::words(b"key_gen_key_switching_key", r, &out);
+}
+
+pub fn run() {
+    key_decomposition_offset();
+    key_gen_testvec();
+    key_gen_key_switching_key();
+}
