@@ -101,7 +101,8 @@ fn slices() {
     slice(refused, &short);
 }
 
-fn main() {
+// Document 01's two, and other eighths of a turn.
+fn eighths() {
     example(b"-0.125", -0.125);
     example(b"1.75", 1.75);
     example(b"0.125", 0.125);
@@ -109,30 +110,69 @@ fn main() {
     example(b"-0.25", -0.25);
     example(b"0.5", 0.5);
     example(b"-0.5", -0.5);
+}
+
+// Whole turns and the zeros.
+fn wholes() {
     example(b"1.0", 1.0);
     example(b"-1.0", -1.0);
     example(b"0.0", 0.0);
     example(b"-0.0", -0.0);
+}
+
+// Decimal fractions, which no double has exactly.
+fn decimals() {
     example(b"0.1", 0.1);
     example(b"-0.1", -0.1);
     example(b"3.3", 3.3);
     example(b"-1234.5678", -1234.5678);
+}
+
+// One step below a turn.
+fn near_a_turn() {
     example(b"0.9999999999999999", 0.9999999999999999);
     example(b"-0.9999999999999999", -0.9999999999999999);
+}
+
+// A word's step, and just less.
+fn near_a_word() {
     example(b"2.3283064365386963e-10", 2.3283064365386963e-10);
     example(b"-2.3283064365386963e-10", -2.3283064365386963e-10);
     example(b"2.328306436538696e-10", 2.328306436538696e-10);
     example(b"-2.328306436538696e-10", -2.328306436538696e-10);
+}
+
+// Numbers with few or no bits after the point.
+fn large() {
     example(b"4503599627370495.5", 4503599627370495.5);
     example(b"9007199254740993.0", 9007199254740993.0);
     example(b"1e300", 1e300);
     example(b"-1e300", -1e300);
+}
+
+// Numbers below the normal ones.
+fn small() {
     example(b"5e-324", 5e-324);
     example(b"-5e-324", -5e-324);
     example(b"1e-310", 1e-310);
+}
+
+// What is no number.
+fn no_numbers() {
     example(b"0.0 / 0.0", 0.0 / 0.0);
     example(b"1.0 / 0.0", 1.0 / 0.0);
     example(b"-1.0 / 0.0", -1.0 / 0.0);
+}
+
+fn main() {
+    eighths();
+    wholes();
+    decimals();
+    near_a_turn();
+    near_a_word();
+    large();
+    small();
+    no_numbers();
     doubles();
     words();
     slices();
