@@ -1,10 +1,9 @@
 -- `decomposition::decomposition_number` meets its contract: each return rewrites with the tests that led there.
 -- Assumes nothing.
 use Prim.Native.Nat.{_+_, _*_}
-use native.Mathlib.Omega.{arith}
 use borrow.Author.Needs.{needs}
 use borrow.Author.Tests.{eq-eqb, ne-eqb}
-use mathlib.Core.Path.{ap}
+use mathlib.Core.Path.{ap, sym, _∙_}
 use Rattle.params.specs.declared.Sizes.{Sizes}
 use Rattle.params.specs.Ranges.{paramsNumber}
 use Rattle.params.specs.Sizes.{size}
@@ -30,7 +29,7 @@ returns-2 c =
     let z = c .before .before .if1 .left in
     let s = ap (λ (x : Sizes). x .size) (lengths (a .p) e z) in
     let m = ap (λ (x : Sizes). x .bitmasks) (lengths (a .p) e z) in
-    simp (eq-eqb (paramsNumber (a .p)) 0 (sized (a .p) e z), ne-eqb (a .la) (size (a .p)) (omega arith))
+    simp (eq-eqb (paramsNumber (a .p)) 0 (sized (a .p) e z), ne-eqb (a .la) (size (a .p)) (λ q. c .if2 .taken (q ∙ sym s)))
 
 returns-3 : tie.Need-returns-3
 unfolding decompositionNumber
@@ -40,7 +39,7 @@ returns-3 c =
     let z = c .before .before .before .before .if1 .left in
     let s = ap (λ (x : Sizes). x .size) (lengths (a .p) e z) in
     let m = ap (λ (x : Sizes). x .bitmasks) (lengths (a .p) e z) in
-    simp (eq-eqb (paramsNumber (a .p)) 0 (sized (a .p) e z), eq-eqb (a .la) (size (a .p)) (omega arith), ne-eqb (a .lb) (size (a .p)) (omega arith))
+    simp (eq-eqb (paramsNumber (a .p)) 0 (sized (a .p) e z), eq-eqb (a .la) (size (a .p)) (c .before .before .if2 .left ∙ s), ne-eqb (a .lb) (size (a .p)) (λ q. c .if3 .taken (q ∙ sym s)))
 
 returns-4 : tie.Need-returns-4
 unfolding decompositionNumber
@@ -50,7 +49,7 @@ returns-4 c =
     let z = c .before .before .before .before .before .before .if1 .left in
     let s = ap (λ (x : Sizes). x .size) (lengths (a .p) e z) in
     let m = ap (λ (x : Sizes). x .bitmasks) (lengths (a .p) e z) in
-    simp (eq-eqb (paramsNumber (a .p)) 0 (sized (a .p) e z), eq-eqb (a .la) (size (a .p)) (omega arith), eq-eqb (a .lb) (size (a .p)) (omega arith), ne-eqb (a .lo) ((a .p .l + a .p .l) * size (a .p)) (omega arith))
+    simp (eq-eqb (paramsNumber (a .p)) 0 (sized (a .p) e z), eq-eqb (a .la) (size (a .p)) (c .before .before .before .before .if2 .left ∙ s), eq-eqb (a .lb) (size (a .p)) (c .before .before .if3 .left ∙ s), ne-eqb (a .lo) ((a .p .l + a .p .l) * size (a .p)) (λ q. c .if4 .taken (q ∙ sym m)))
 
 returns-5 : tie.Need-returns-5
 unfolding decompositionNumber
@@ -60,7 +59,7 @@ returns-5 c =
     let z = c .before .before .before .before .before .before .if1 .left in
     let s = ap (λ (x : Sizes). x .size) (lengths (a .p) e z) in
     let m = ap (λ (x : Sizes). x .bitmasks) (lengths (a .p) e z) in
-    simp (eq-eqb (paramsNumber (a .p)) 0 (sized (a .p) e z), eq-eqb (a .la) (size (a .p)) (omega arith), eq-eqb (a .lb) (size (a .p)) (omega arith), eq-eqb (a .lo) ((a .p .l + a .p .l) * size (a .p)) (omega arith))
+    simp (eq-eqb (paramsNumber (a .p)) 0 (sized (a .p) e z), eq-eqb (a .la) (size (a .p)) (c .before .before .before .before .if2 .left ∙ s), eq-eqb (a .lb) (size (a .p)) (c .before .before .if3 .left ∙ s), eq-eqb (a .lo) ((a .p .l + a .p .l) * size (a .p)) (c .if4 .left ∙ m))
 
 pub decomposition-number-spec : {M : Type 1} → statement M
 decomposition-number-spec =

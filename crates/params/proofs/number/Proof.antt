@@ -14,43 +14,43 @@ returns : tie.Need-returns
 unfolding paramsNumber
 returns c =
     let p = c .before .before .args .p in
-    simp (lt-leb 1 (p .n) (omega arith))
+    simp (lt-leb 1 (p .n) (c .if1 .taken))
 
 returns-2 : tie.Need-returns-2
 unfolding paramsNumber
 returns-2 c =
     let p = c .before .before .before .before .args .p in
-    simp (le-leb 1 (p .n) (omega arith), lt-leb (p .n) 1100 (omega arith))
+    simp (le-leb 1 (p .n) (c .before .before .if1 .left), lt-leb (p .n) 1100 (c .if2 .taken))
 
 returns-3 : tie.Need-returns-3
 unfolding paramsNumber
 returns-3 c =
     let p = c .before .before .before .before .before .before .args .p in
-    simp (le-leb 1 (p .n) (omega arith), le-leb (p .n) 1100 (omega arith), lt-leb 1 (p .nbit) (omega arith))
+    simp (le-leb 1 (p .n) (c .before .before .before .before .if1 .left), le-leb (p .n) 1100 (c .before .before .if2 .left), lt-leb 1 (p .nbit) (c .if3 .taken))
 
 returns-4 : tie.Need-returns-4
 unfolding paramsNumber
 returns-4 c =
     let p = c .before .before .before .before .before .before .before .before .args .p in
-    simp (le-leb 1 (p .n) (omega arith), le-leb (p .n) 1100 (omega arith), le-leb 1 (p .nbit) (omega arith), lt-leb (p .nbit) 10 (omega arith))
+    simp (le-leb 1 (p .n) (c .before .before .before .before .before .before .if1 .left), le-leb (p .n) 1100 (c .before .before .before .before .if2 .left), le-leb 1 (p .nbit) (c .before .before .if3 .left), lt-leb (p .nbit) 10 (c .if4 .taken))
 
 returns-5 : tie.Need-returns-5
 unfolding paramsNumber
 returns-5 c =
     let p = c .before .before .before .before .before .before .before .before .before .before .args .p in
-    simp (le-leb 1 (p .n) (omega arith), le-leb (p .n) 1100 (omega arith), le-leb 1 (p .nbit) (omega arith), le-leb (p .nbit) 10 (omega arith), lt-leb 1 (p .bgbit) (omega arith))
+    simp (le-leb 1 (p .n) (c .before .before .before .before .before .before .before .before .if1 .left), le-leb (p .n) 1100 (c .before .before .before .before .before .before .if2 .left), le-leb 1 (p .nbit) (c .before .before .before .before .if3 .left), le-leb (p .nbit) 10 (c .before .before .if4 .left), lt-leb 1 (p .bgbit) (c .if5 .taken))
 
 returns-6 : tie.Need-returns-6
 unfolding paramsNumber
 returns-6 c =
     let p = c .before .before .before .before .before .before .before .before .before .before .before .before .args .p in
-    simp (le-leb 1 (p .n) (omega arith), le-leb (p .n) 1100 (omega arith), le-leb 1 (p .nbit) (omega arith), le-leb (p .nbit) 10 (omega arith), le-leb 1 (p .bgbit) (omega arith), lt-leb (p .bgbit) 24 (omega arith))
+    simp (le-leb 1 (p .n) (c .before .before .before .before .before .before .before .before .before .before .if1 .left), le-leb (p .n) 1100 (c .before .before .before .before .before .before .before .before .if2 .left), le-leb 1 (p .nbit) (c .before .before .before .before .before .before .if3 .left), le-leb (p .nbit) 10 (c .before .before .before .before .if4 .left), le-leb 1 (p .bgbit) (c .before .before .if5 .left), lt-leb (p .bgbit) 24 (c .if6 .taken))
 
 returns-7 : tie.Need-returns-7
 unfolding paramsNumber
 returns-7 c =
     let p = c .before .before .before .before .before .before .before .before .before .before .before .before .before .before .args .p in
-    simp (le-leb 1 (p .n) (omega arith), le-leb (p .n) 1100 (omega arith), le-leb 1 (p .nbit) (omega arith), le-leb (p .nbit) 10 (omega arith), le-leb 1 (p .bgbit) (omega arith), le-leb (p .bgbit) 24 (omega arith), lt-leb 1 (p .l) (omega arith))
+    simp (le-leb 1 (p .n) (c .before .before .before .before .before .before .before .before .before .before .before .before .if1 .left), le-leb (p .n) 1100 (c .before .before .before .before .before .before .before .before .before .before .if2 .left), le-leb 1 (p .nbit) (c .before .before .before .before .before .before .before .before .if3 .left), le-leb (p .nbit) 10 (c .before .before .before .before .before .before .if4 .left), le-leb 1 (p .bgbit) (c .before .before .before .before .if5 .left), le-leb (p .bgbit) 24 (c .before .before .if6 .left), lt-leb 1 (p .l) (c .if7 .taken))
 
 cast-if8 : tie.Need-cast-if8
 cast-if8 c = search needs
@@ -69,7 +69,7 @@ returns-8 : tie.Need-returns-8
 unfolding paramsNumber
 returns-8 c =
     let p = c .before .before .before .before .before .before .before .before .before .before .before .before .before .before .before .before .before .args .p in
-    simp (le-leb 1 (p .n) (omega arith), le-leb (p .n) 1100 (omega arith), le-leb 1 (p .nbit) (omega arith), le-leb (p .nbit) 10 (omega arith), le-leb 1 (p .bgbit) (omega arith), le-leb (p .bgbit) 24 (omega arith), le-leb 1 (p .l) (omega arith), lt-leb (p .l * p .bgbit) 32 (omega arith))
+    simp (le-leb 1 (p .n) (c .before .before .before .before .before .before .before .before .before .before .before .before .before .before .before .if1 .left), le-leb (p .n) 1100 (c .before .before .before .before .before .before .before .before .before .before .before .before .before .if2 .left), le-leb 1 (p .nbit) (c .before .before .before .before .before .before .before .before .before .before .before .if3 .left), le-leb (p .nbit) 10 (c .before .before .before .before .before .before .before .before .before .if4 .left), le-leb 1 (p .bgbit) (c .before .before .before .before .before .before .before .if5 .left), le-leb (p .bgbit) 24 (c .before .before .before .before .before .if6 .left), le-leb 1 (p .l) (c .before .before .before .if7 .left), lt-leb (p .l * p .bgbit) 32 (omega arith))
 
 switching-number-requires : tie.Need-switching-number-requires
 switching-number-requires c κs = search needs
@@ -78,7 +78,7 @@ returns-9 : tie.Need-returns-9
 unfolding paramsNumber
 returns-9 c =
     let p = c .before .before .before .before .before .before .before .before .before .before .before .before .before .before .before .before .before .before .args .p in
-    c .switching-number .ensures ∙ sym (simp (le-leb 1 (p .n) (omega arith), le-leb (p .n) 1100 (omega arith), le-leb 1 (p .nbit) (omega arith), le-leb (p .nbit) 10 (omega arith), le-leb 1 (p .bgbit) (omega arith), le-leb (p .bgbit) 24 (omega arith), le-leb 1 (p .l) (omega arith), le-leb (p .l * p .bgbit) 32 (omega arith)))
+    c .switching-number .ensures ∙ sym (simp (le-leb 1 (p .n) (c .before .before .before .before .before .before .before .before .before .before .before .before .before .before .before .before .if1 .left), le-leb (p .n) 1100 (c .before .before .before .before .before .before .before .before .before .before .before .before .before .before .if2 .left), le-leb 1 (p .nbit) (c .before .before .before .before .before .before .before .before .before .before .before .before .if3 .left), le-leb (p .nbit) 10 (c .before .before .before .before .before .before .before .before .before .before .if4 .left), le-leb 1 (p .bgbit) (c .before .before .before .before .before .before .before .before .if5 .left), le-leb (p .bgbit) 24 (c .before .before .before .before .before .before .if6 .left), le-leb 1 (p .l) (c .before .before .before .before .if7 .left), le-leb (p .l * p .bgbit) 32 (omega arith)))
 
 pub number-spec : {M : Type 1} → statement M
 number-spec =

@@ -1,6 +1,6 @@
 -- `product::product_number` meets its contract: each return rewrites with the tests that led there.
 -- Assumes nothing.
-use native.Mathlib.Omega.{arith}
+use mathlib.Core.Path.{sym, _∙_}
 use borrow.Author.Needs.{needs}
 use borrow.Author.Tests.{eq-eqb, ne-eqb}
 use Rattle.params.specs.Ranges.{paramsNumber}
@@ -26,7 +26,7 @@ returns-2 c =
     let e = c .before .before .before .before .sizes-of .ensures in
     let z = c .before .before .if1 .left in
     let s = size-passed (a .p) e z in
-    simp (eq-eqb (paramsNumber (a .p)) 0 (range-passed (a .p) e z), ne-eqb (a .la) (size (a .p)) (omega arith))
+    simp (eq-eqb (paramsNumber (a .p)) 0 (range-passed (a .p) e z), ne-eqb (a .la) (size (a .p)) (λ q. c .if2 .taken (q ∙ sym s)))
 
 returns-3 : tie.Need-returns-3
 unfolding productNumber
@@ -35,7 +35,7 @@ returns-3 c =
     let e = c .before .before .before .before .before .before .sizes-of .ensures in
     let z = c .before .before .before .before .if1 .left in
     let s = size-passed (a .p) e z in
-    simp (eq-eqb (paramsNumber (a .p)) 0 (range-passed (a .p) e z), eq-eqb (a .la) (size (a .p)) (omega arith), ne-eqb (a .lb) (size (a .p)) (omega arith))
+    simp (eq-eqb (paramsNumber (a .p)) 0 (range-passed (a .p) e z), eq-eqb (a .la) (size (a .p)) (c .before .before .if2 .left ∙ s), ne-eqb (a .lb) (size (a .p)) (λ q. c .if3 .taken (q ∙ sym s)))
 
 returns-4 : tie.Need-returns-4
 unfolding productNumber
@@ -44,7 +44,7 @@ returns-4 c =
     let e = c .before .before .before .before .before .before .before .before .sizes-of .ensures in
     let z = c .before .before .before .before .before .before .if1 .left in
     let s = size-passed (a .p) e z in
-    simp (eq-eqb (paramsNumber (a .p)) 0 (range-passed (a .p) e z), eq-eqb (a .la) (size (a .p)) (omega arith), eq-eqb (a .lb) (size (a .p)) (omega arith), ne-eqb (a .lo) (size (a .p)) (omega arith))
+    simp (eq-eqb (paramsNumber (a .p)) 0 (range-passed (a .p) e z), eq-eqb (a .la) (size (a .p)) (c .before .before .before .before .if2 .left ∙ s), eq-eqb (a .lb) (size (a .p)) (c .before .before .if3 .left ∙ s), ne-eqb (a .lo) (size (a .p)) (λ q. c .if4 .taken (q ∙ sym s)))
 
 returns-5 : tie.Need-returns-5
 unfolding productNumber
@@ -53,7 +53,7 @@ returns-5 c =
     let e = c .before .before .before .before .before .before .before .before .sizes-of .ensures in
     let z = c .before .before .before .before .before .before .if1 .left in
     let s = size-passed (a .p) e z in
-    simp (eq-eqb (paramsNumber (a .p)) 0 (range-passed (a .p) e z), eq-eqb (a .la) (size (a .p)) (omega arith), eq-eqb (a .lb) (size (a .p)) (omega arith), eq-eqb (a .lo) (size (a .p)) (omega arith))
+    simp (eq-eqb (paramsNumber (a .p)) 0 (range-passed (a .p) e z), eq-eqb (a .la) (size (a .p)) (c .before .before .before .before .if2 .left ∙ s), eq-eqb (a .lb) (size (a .p)) (c .before .before .if3 .left ∙ s), eq-eqb (a .lo) (size (a .p)) (c .if4 .left ∙ s))
 
 pub product-number-spec : {M : Type 1} → statement M
 product-number-spec =

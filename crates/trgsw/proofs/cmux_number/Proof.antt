@@ -1,9 +1,8 @@
 -- `trgsw::cmux_number` meets its contract: each return rewrites with the tests that led there.
 -- Assumes nothing.
-use native.Mathlib.Omega.{arith}
 use borrow.Author.Needs.{needs}
 use borrow.Author.Tests.{eq-eqb, ne-eqb}
-use mathlib.Core.Path.{ap}
+use mathlib.Core.Path.{ap, sym, _∙_}
 use Rattle.params.specs.declared.Sizes.{Sizes}
 use Rattle.params.specs.Ranges.{paramsNumber}
 use Rattle.params.specs.Sizes.{size, bitWords}
@@ -29,7 +28,7 @@ returns-2 c =
     let z = c .before .before .if1 .left in
     let s = ap (λ (x : Sizes). x .size) (lengths (a .p) e z) in
     let w = ap (λ (x : Sizes). x .bit) (lengths (a .p) e z) in
-    simp (eq-eqb (paramsNumber (a .p)) 0 (sized (a .p) e z), ne-eqb (a .la) (size (a .p)) (omega arith))
+    simp (eq-eqb (paramsNumber (a .p)) 0 (sized (a .p) e z), ne-eqb (a .la) (size (a .p)) (λ q. c .if2 .taken (q ∙ sym s)))
 
 returns-3 : tie.Need-returns-3
 unfolding cmuxNumber
@@ -39,7 +38,7 @@ returns-3 c =
     let z = c .before .before .before .before .if1 .left in
     let s = ap (λ (x : Sizes). x .size) (lengths (a .p) e z) in
     let w = ap (λ (x : Sizes). x .bit) (lengths (a .p) e z) in
-    simp (eq-eqb (paramsNumber (a .p)) 0 (sized (a .p) e z), eq-eqb (a .la) (size (a .p)) (omega arith), ne-eqb (a .lb) (size (a .p)) (omega arith))
+    simp (eq-eqb (paramsNumber (a .p)) 0 (sized (a .p) e z), eq-eqb (a .la) (size (a .p)) (c .before .before .if2 .left ∙ s), ne-eqb (a .lb) (size (a .p)) (λ q. c .if3 .taken (q ∙ sym s)))
 
 returns-4 : tie.Need-returns-4
 unfolding cmuxNumber
@@ -49,7 +48,7 @@ returns-4 c =
     let z = c .before .before .before .before .before .before .if1 .left in
     let s = ap (λ (x : Sizes). x .size) (lengths (a .p) e z) in
     let w = ap (λ (x : Sizes). x .bit) (lengths (a .p) e z) in
-    simp (eq-eqb (paramsNumber (a .p)) 0 (sized (a .p) e z), eq-eqb (a .la) (size (a .p)) (omega arith), eq-eqb (a .lb) (size (a .p)) (omega arith), ne-eqb (a .lc) (size (a .p)) (omega arith))
+    simp (eq-eqb (paramsNumber (a .p)) 0 (sized (a .p) e z), eq-eqb (a .la) (size (a .p)) (c .before .before .before .before .if2 .left ∙ s), eq-eqb (a .lb) (size (a .p)) (c .before .before .if3 .left ∙ s), ne-eqb (a .lc) (size (a .p)) (λ q. c .if4 .taken (q ∙ sym s)))
 
 returns-5 : tie.Need-returns-5
 unfolding cmuxNumber
@@ -59,7 +58,7 @@ returns-5 c =
     let z = c .before .before .before .before .before .before .before .before .if1 .left in
     let s = ap (λ (x : Sizes). x .size) (lengths (a .p) e z) in
     let w = ap (λ (x : Sizes). x .bit) (lengths (a .p) e z) in
-    simp (eq-eqb (paramsNumber (a .p)) 0 (sized (a .p) e z), eq-eqb (a .la) (size (a .p)) (omega arith), eq-eqb (a .lb) (size (a .p)) (omega arith), eq-eqb (a .lc) (size (a .p)) (omega arith), ne-eqb (a .ld) (size (a .p)) (omega arith))
+    simp (eq-eqb (paramsNumber (a .p)) 0 (sized (a .p) e z), eq-eqb (a .la) (size (a .p)) (c .before .before .before .before .before .before .if2 .left ∙ s), eq-eqb (a .lb) (size (a .p)) (c .before .before .before .before .if3 .left ∙ s), eq-eqb (a .lc) (size (a .p)) (c .before .before .if4 .left ∙ s), ne-eqb (a .ld) (size (a .p)) (λ q. c .if5 .taken (q ∙ sym s)))
 
 returns-6 : tie.Need-returns-6
 unfolding cmuxNumber
@@ -69,7 +68,7 @@ returns-6 c =
     let z = c .before .before .before .before .before .before .before .before .before .before .if1 .left in
     let s = ap (λ (x : Sizes). x .size) (lengths (a .p) e z) in
     let w = ap (λ (x : Sizes). x .bit) (lengths (a .p) e z) in
-    simp (eq-eqb (paramsNumber (a .p)) 0 (sized (a .p) e z), eq-eqb (a .la) (size (a .p)) (omega arith), eq-eqb (a .lb) (size (a .p)) (omega arith), eq-eqb (a .lc) (size (a .p)) (omega arith), eq-eqb (a .ld) (size (a .p)) (omega arith), ne-eqb (a .lr) (bitWords (a .p)) (omega arith))
+    simp (eq-eqb (paramsNumber (a .p)) 0 (sized (a .p) e z), eq-eqb (a .la) (size (a .p)) (c .before .before .before .before .before .before .before .before .if2 .left ∙ s), eq-eqb (a .lb) (size (a .p)) (c .before .before .before .before .before .before .if3 .left ∙ s), eq-eqb (a .lc) (size (a .p)) (c .before .before .before .before .if4 .left ∙ s), eq-eqb (a .ld) (size (a .p)) (c .before .before .if5 .left ∙ s), ne-eqb (a .lr) (bitWords (a .p)) (λ q. c .if6 .taken (q ∙ sym w)))
 
 returns-7 : tie.Need-returns-7
 unfolding cmuxNumber
@@ -79,7 +78,7 @@ returns-7 c =
     let z = c .before .before .before .before .before .before .before .before .before .before .before .before .if1 .left in
     let s = ap (λ (x : Sizes). x .size) (lengths (a .p) e z) in
     let w = ap (λ (x : Sizes). x .bit) (lengths (a .p) e z) in
-    simp (eq-eqb (paramsNumber (a .p)) 0 (sized (a .p) e z), eq-eqb (a .la) (size (a .p)) (omega arith), eq-eqb (a .lb) (size (a .p)) (omega arith), eq-eqb (a .lc) (size (a .p)) (omega arith), eq-eqb (a .ld) (size (a .p)) (omega arith), eq-eqb (a .lr) (bitWords (a .p)) (omega arith), ne-eqb (a .lx) (size (a .p)) (omega arith))
+    simp (eq-eqb (paramsNumber (a .p)) 0 (sized (a .p) e z), eq-eqb (a .la) (size (a .p)) (c .before .before .before .before .before .before .before .before .before .before .if2 .left ∙ s), eq-eqb (a .lb) (size (a .p)) (c .before .before .before .before .before .before .before .before .if3 .left ∙ s), eq-eqb (a .lc) (size (a .p)) (c .before .before .before .before .before .before .if4 .left ∙ s), eq-eqb (a .ld) (size (a .p)) (c .before .before .before .before .if5 .left ∙ s), eq-eqb (a .lr) (bitWords (a .p)) (c .before .before .if6 .left ∙ w), ne-eqb (a .lx) (size (a .p)) (λ q. c .if7 .taken (q ∙ sym s)))
 
 returns-8 : tie.Need-returns-8
 unfolding cmuxNumber
@@ -89,7 +88,7 @@ returns-8 c =
     let z = c .before .before .before .before .before .before .before .before .before .before .before .before .before .before .if1 .left in
     let s = ap (λ (x : Sizes). x .size) (lengths (a .p) e z) in
     let w = ap (λ (x : Sizes). x .bit) (lengths (a .p) e z) in
-    simp (eq-eqb (paramsNumber (a .p)) 0 (sized (a .p) e z), eq-eqb (a .la) (size (a .p)) (omega arith), eq-eqb (a .lb) (size (a .p)) (omega arith), eq-eqb (a .lc) (size (a .p)) (omega arith), eq-eqb (a .ld) (size (a .p)) (omega arith), eq-eqb (a .lr) (bitWords (a .p)) (omega arith), eq-eqb (a .lx) (size (a .p)) (omega arith), ne-eqb (a .ly) (size (a .p)) (omega arith))
+    simp (eq-eqb (paramsNumber (a .p)) 0 (sized (a .p) e z), eq-eqb (a .la) (size (a .p)) (c .before .before .before .before .before .before .before .before .before .before .before .before .if2 .left ∙ s), eq-eqb (a .lb) (size (a .p)) (c .before .before .before .before .before .before .before .before .before .before .if3 .left ∙ s), eq-eqb (a .lc) (size (a .p)) (c .before .before .before .before .before .before .before .before .if4 .left ∙ s), eq-eqb (a .ld) (size (a .p)) (c .before .before .before .before .before .before .if5 .left ∙ s), eq-eqb (a .lr) (bitWords (a .p)) (c .before .before .before .before .if6 .left ∙ w), eq-eqb (a .lx) (size (a .p)) (c .before .before .if7 .left ∙ s), ne-eqb (a .ly) (size (a .p)) (λ q. c .if8 .taken (q ∙ sym s)))
 
 returns-9 : tie.Need-returns-9
 unfolding cmuxNumber
@@ -99,7 +98,7 @@ returns-9 c =
     let z = c .before .before .before .before .before .before .before .before .before .before .before .before .before .before .if1 .left in
     let s = ap (λ (x : Sizes). x .size) (lengths (a .p) e z) in
     let w = ap (λ (x : Sizes). x .bit) (lengths (a .p) e z) in
-    simp (eq-eqb (paramsNumber (a .p)) 0 (sized (a .p) e z), eq-eqb (a .la) (size (a .p)) (omega arith), eq-eqb (a .lb) (size (a .p)) (omega arith), eq-eqb (a .lc) (size (a .p)) (omega arith), eq-eqb (a .ld) (size (a .p)) (omega arith), eq-eqb (a .lr) (bitWords (a .p)) (omega arith), eq-eqb (a .lx) (size (a .p)) (omega arith), eq-eqb (a .ly) (size (a .p)) (omega arith))
+    simp (eq-eqb (paramsNumber (a .p)) 0 (sized (a .p) e z), eq-eqb (a .la) (size (a .p)) (c .before .before .before .before .before .before .before .before .before .before .before .before .if2 .left ∙ s), eq-eqb (a .lb) (size (a .p)) (c .before .before .before .before .before .before .before .before .before .before .if3 .left ∙ s), eq-eqb (a .lc) (size (a .p)) (c .before .before .before .before .before .before .before .before .if4 .left ∙ s), eq-eqb (a .ld) (size (a .p)) (c .before .before .before .before .before .before .if5 .left ∙ s), eq-eqb (a .lr) (bitWords (a .p)) (c .before .before .before .before .if6 .left ∙ w), eq-eqb (a .lx) (size (a .p)) (c .before .before .if7 .left ∙ s), eq-eqb (a .ly) (size (a .p)) (c .if8 .left ∙ s))
 
 pub cmux-number-spec : {M : Type 1} → statement M
 cmux-number-spec =

@@ -1,9 +1,8 @@
 -- `trgsw::external_number` meets its contract: each return rewrites with the tests that led there.
 -- Assumes nothing.
-use native.Mathlib.Omega.{arith}
 use borrow.Author.Needs.{needs}
 use borrow.Author.Tests.{eq-eqb, ne-eqb}
-use mathlib.Core.Path.{ap}
+use mathlib.Core.Path.{ap, sym, _∙_}
 use Rattle.params.specs.declared.Sizes.{Sizes}
 use Rattle.params.specs.Ranges.{paramsNumber}
 use Rattle.params.specs.Sizes.{size, bitWords}
@@ -29,7 +28,7 @@ returns-2 c =
     let z = c .before .before .if1 .left in
     let s = ap (λ (x : Sizes). x .size) (lengths (a .p) e z) in
     let w = ap (λ (x : Sizes). x .bit) (lengths (a .p) e z) in
-    simp (eq-eqb (paramsNumber (a .p)) 0 (sized (a .p) e z), ne-eqb (a .lr) (bitWords (a .p)) (omega arith))
+    simp (eq-eqb (paramsNumber (a .p)) 0 (sized (a .p) e z), ne-eqb (a .lr) (bitWords (a .p)) (λ q. c .if2 .taken (q ∙ sym w)))
 
 returns-3 : tie.Need-returns-3
 unfolding externalNumber
@@ -39,7 +38,7 @@ returns-3 c =
     let z = c .before .before .before .before .if1 .left in
     let s = ap (λ (x : Sizes). x .size) (lengths (a .p) e z) in
     let w = ap (λ (x : Sizes). x .bit) (lengths (a .p) e z) in
-    simp (eq-eqb (paramsNumber (a .p)) 0 (sized (a .p) e z), eq-eqb (a .lr) (bitWords (a .p)) (omega arith), ne-eqb (a .la) (size (a .p)) (omega arith))
+    simp (eq-eqb (paramsNumber (a .p)) 0 (sized (a .p) e z), eq-eqb (a .lr) (bitWords (a .p)) (c .before .before .if2 .left ∙ w), ne-eqb (a .la) (size (a .p)) (λ q. c .if3 .taken (q ∙ sym s)))
 
 returns-4 : tie.Need-returns-4
 unfolding externalNumber
@@ -49,7 +48,7 @@ returns-4 c =
     let z = c .before .before .before .before .before .before .if1 .left in
     let s = ap (λ (x : Sizes). x .size) (lengths (a .p) e z) in
     let w = ap (λ (x : Sizes). x .bit) (lengths (a .p) e z) in
-    simp (eq-eqb (paramsNumber (a .p)) 0 (sized (a .p) e z), eq-eqb (a .lr) (bitWords (a .p)) (omega arith), eq-eqb (a .la) (size (a .p)) (omega arith), ne-eqb (a .lb) (size (a .p)) (omega arith))
+    simp (eq-eqb (paramsNumber (a .p)) 0 (sized (a .p) e z), eq-eqb (a .lr) (bitWords (a .p)) (c .before .before .before .before .if2 .left ∙ w), eq-eqb (a .la) (size (a .p)) (c .before .before .if3 .left ∙ s), ne-eqb (a .lb) (size (a .p)) (λ q. c .if4 .taken (q ∙ sym s)))
 
 returns-5 : tie.Need-returns-5
 unfolding externalNumber
@@ -59,7 +58,7 @@ returns-5 c =
     let z = c .before .before .before .before .before .before .before .before .if1 .left in
     let s = ap (λ (x : Sizes). x .size) (lengths (a .p) e z) in
     let w = ap (λ (x : Sizes). x .bit) (lengths (a .p) e z) in
-    simp (eq-eqb (paramsNumber (a .p)) 0 (sized (a .p) e z), eq-eqb (a .lr) (bitWords (a .p)) (omega arith), eq-eqb (a .la) (size (a .p)) (omega arith), eq-eqb (a .lb) (size (a .p)) (omega arith), ne-eqb (a .lx) (size (a .p)) (omega arith))
+    simp (eq-eqb (paramsNumber (a .p)) 0 (sized (a .p) e z), eq-eqb (a .lr) (bitWords (a .p)) (c .before .before .before .before .before .before .if2 .left ∙ w), eq-eqb (a .la) (size (a .p)) (c .before .before .before .before .if3 .left ∙ s), eq-eqb (a .lb) (size (a .p)) (c .before .before .if4 .left ∙ s), ne-eqb (a .lx) (size (a .p)) (λ q. c .if5 .taken (q ∙ sym s)))
 
 returns-6 : tie.Need-returns-6
 unfolding externalNumber
@@ -69,7 +68,7 @@ returns-6 c =
     let z = c .before .before .before .before .before .before .before .before .before .before .if1 .left in
     let s = ap (λ (x : Sizes). x .size) (lengths (a .p) e z) in
     let w = ap (λ (x : Sizes). x .bit) (lengths (a .p) e z) in
-    simp (eq-eqb (paramsNumber (a .p)) 0 (sized (a .p) e z), eq-eqb (a .lr) (bitWords (a .p)) (omega arith), eq-eqb (a .la) (size (a .p)) (omega arith), eq-eqb (a .lb) (size (a .p)) (omega arith), eq-eqb (a .lx) (size (a .p)) (omega arith), ne-eqb (a .ly) (size (a .p)) (omega arith))
+    simp (eq-eqb (paramsNumber (a .p)) 0 (sized (a .p) e z), eq-eqb (a .lr) (bitWords (a .p)) (c .before .before .before .before .before .before .before .before .if2 .left ∙ w), eq-eqb (a .la) (size (a .p)) (c .before .before .before .before .before .before .if3 .left ∙ s), eq-eqb (a .lb) (size (a .p)) (c .before .before .before .before .if4 .left ∙ s), eq-eqb (a .lx) (size (a .p)) (c .before .before .if5 .left ∙ s), ne-eqb (a .ly) (size (a .p)) (λ q. c .if6 .taken (q ∙ sym s)))
 
 returns-7 : tie.Need-returns-7
 unfolding externalNumber
@@ -79,7 +78,7 @@ returns-7 c =
     let z = c .before .before .before .before .before .before .before .before .before .before .if1 .left in
     let s = ap (λ (x : Sizes). x .size) (lengths (a .p) e z) in
     let w = ap (λ (x : Sizes). x .bit) (lengths (a .p) e z) in
-    simp (eq-eqb (paramsNumber (a .p)) 0 (sized (a .p) e z), eq-eqb (a .lr) (bitWords (a .p)) (omega arith), eq-eqb (a .la) (size (a .p)) (omega arith), eq-eqb (a .lb) (size (a .p)) (omega arith), eq-eqb (a .lx) (size (a .p)) (omega arith), eq-eqb (a .ly) (size (a .p)) (omega arith))
+    simp (eq-eqb (paramsNumber (a .p)) 0 (sized (a .p) e z), eq-eqb (a .lr) (bitWords (a .p)) (c .before .before .before .before .before .before .before .before .if2 .left ∙ w), eq-eqb (a .la) (size (a .p)) (c .before .before .before .before .before .before .if3 .left ∙ s), eq-eqb (a .lb) (size (a .p)) (c .before .before .before .before .if4 .left ∙ s), eq-eqb (a .lx) (size (a .p)) (c .before .before .if5 .left ∙ s), eq-eqb (a .ly) (size (a .p)) (c .if6 .left ∙ s))
 
 pub external-number-spec : {M : Type 1} → statement M
 external-number-spec =

@@ -1,6 +1,5 @@
 -- `trlwe::decrypt_number` meets its contract: each return rewrites with the tests that led there.
 -- Assumes nothing.
-use native.Mathlib.Omega.{arith}
 use borrow.Author.Needs.{needs}
 use borrow.Author.Tests.{eq-eqb, ne-eqb}
 use Rattle.params.specs.Ranges.{paramsNumber}
@@ -29,7 +28,7 @@ returns-2 c =
     let e = c .before .before .before .before .sizes-of .ensures in
     let z = c .before .before .if1 .left in
     let s = size-passed (a .p) e z in
-    simp (eq-eqb (paramsNumber (a .p)) 0 (range-passed (a .p) e z), ne-eqb (a .la) (size (a .p)) (omega arith))
+    simp (eq-eqb (paramsNumber (a .p)) 0 (range-passed (a .p) e z), ne-eqb (a .la) (size (a .p)) (λ q. c .if2 .taken (q ∙ sym s)))
 
 returns-3 : tie.Need-returns-3
 unfolding decryptNumber
@@ -38,7 +37,7 @@ returns-3 c =
     let e = c .before .before .before .before .before .before .sizes-of .ensures in
     let z = c .before .before .before .before .if1 .left in
     let s = size-passed (a .p) e z in
-    simp (eq-eqb (paramsNumber (a .p)) 0 (range-passed (a .p) e z), eq-eqb (a .la) (size (a .p)) (omega arith), ne-eqb (a .lb) (size (a .p)) (omega arith))
+    simp (eq-eqb (paramsNumber (a .p)) 0 (range-passed (a .p) e z), eq-eqb (a .la) (size (a .p)) (c .before .before .if2 .left ∙ s), ne-eqb (a .lb) (size (a .p)) (λ q. c .if3 .taken (q ∙ sym s)))
 
 returns-4 : tie.Need-returns-4
 unfolding decryptNumber
@@ -47,7 +46,7 @@ returns-4 c =
     let e = c .before .before .before .before .before .before .before .before .sizes-of .ensures in
     let z = c .before .before .before .before .before .before .if1 .left in
     let s = size-passed (a .p) e z in
-    simp (eq-eqb (paramsNumber (a .p)) 0 (range-passed (a .p) e z), eq-eqb (a .la) (size (a .p)) (omega arith), eq-eqb (a .lb) (size (a .p)) (omega arith), ne-eqb (length (now (a .key))) (size (a .p)) (omega arith))
+    simp (eq-eqb (paramsNumber (a .p)) 0 (range-passed (a .p) e z), eq-eqb (a .la) (size (a .p)) (c .before .before .before .before .if2 .left ∙ s), eq-eqb (a .lb) (size (a .p)) (c .before .before .if3 .left ∙ s), ne-eqb (length (now (a .key))) (size (a .p)) (λ q. c .if4 .taken (q ∙ sym s)))
 
 returns-5 : tie.Need-returns-5
 unfolding decryptNumber
@@ -56,7 +55,7 @@ returns-5 c =
     let e = c .before .before .before .before .before .before .before .before .before .before .sizes-of .ensures in
     let z = c .before .before .before .before .before .before .before .before .if1 .left in
     let s = size-passed (a .p) e z in
-    simp (eq-eqb (paramsNumber (a .p)) 0 (range-passed (a .p) e z), eq-eqb (a .la) (size (a .p)) (omega arith), eq-eqb (a .lb) (size (a .p)) (omega arith), eq-eqb (length (now (a .key))) (size (a .p)) (omega arith), ne-eqb (a .lo) (size (a .p)) (omega arith))
+    simp (eq-eqb (paramsNumber (a .p)) 0 (range-passed (a .p) e z), eq-eqb (a .la) (size (a .p)) (c .before .before .before .before .before .before .if2 .left ∙ s), eq-eqb (a .lb) (size (a .p)) (c .before .before .before .before .if3 .left ∙ s), eq-eqb (length (now (a .key))) (size (a .p)) (c .before .before .if4 .left ∙ s), ne-eqb (a .lo) (size (a .p)) (λ q. c .if5 .taken (q ∙ sym s)))
 
 key-number-requires : tie.Need-key-number-requires
 key-number-requires c κs = search needs
@@ -68,7 +67,7 @@ returns-6 c =
     let e = c .before .before .before .before .before .before .before .before .before .before .before .sizes-of .ensures in
     let z = c .before .before .before .before .before .before .before .before .before .if1 .left in
     let s = size-passed (a .p) e z in
-    c .key-number .ensures ∙ sym (simp (eq-eqb (paramsNumber (a .p)) 0 (range-passed (a .p) e z), eq-eqb (a .la) (size (a .p)) (omega arith), eq-eqb (a .lb) (size (a .p)) (omega arith), eq-eqb (length (now (a .key))) (size (a .p)) (omega arith), eq-eqb (a .lo) (size (a .p)) (omega arith)))
+    c .key-number .ensures ∙ sym (simp (eq-eqb (paramsNumber (a .p)) 0 (range-passed (a .p) e z), eq-eqb (a .la) (size (a .p)) (c .before .before .before .before .before .before .before .if2 .left ∙ s), eq-eqb (a .lb) (size (a .p)) (c .before .before .before .before .before .if3 .left ∙ s), eq-eqb (length (now (a .key))) (size (a .p)) (c .before .before .before .if4 .left ∙ s), eq-eqb (a .lo) (size (a .p)) (c .before .if5 .left ∙ s)))
 
 pub decrypt-number-spec : {M : Type 1} → statement M
 decrypt-number-spec = tie.close (tie.spec sizes-of-requires returns returns-2 returns-3 returns-4 returns-5 key-number-requires returns-6)

@@ -1,6 +1,5 @@
 -- `trlwe::encrypt_number` meets its contract: each return rewrites with the tests that led there.
 -- Assumes nothing.
-use native.Mathlib.Omega.{arith}
 use borrow.Author.Needs.{needs}
 use borrow.Author.Tests.{eq-eqb, ne-eqb}
 use Rattle.params.specs.Ranges.{paramsNumber}
@@ -29,7 +28,7 @@ returns-2 c =
     let e = c .before .before .before .before .sizes-of .ensures in
     let z = c .before .before .if1 .left in
     let s = size-passed (a .p) e z in
-    simp (eq-eqb (paramsNumber (a .p)) 0 (range-passed (a .p) e z), ne-eqb (a .plain) (size (a .p)) (omega arith))
+    simp (eq-eqb (paramsNumber (a .p)) 0 (range-passed (a .p) e z), ne-eqb (a .plain) (size (a .p)) (λ q. c .if2 .taken (q ∙ sym s)))
 
 returns-3 : tie.Need-returns-3
 unfolding encryptNumber
@@ -38,7 +37,7 @@ returns-3 c =
     let e = c .before .before .before .before .before .before .sizes-of .ensures in
     let z = c .before .before .before .before .if1 .left in
     let s = size-passed (a .p) e z in
-    simp (eq-eqb (paramsNumber (a .p)) 0 (range-passed (a .p) e z), eq-eqb (a .plain) (size (a .p)) (omega arith), ne-eqb (a .masks) (size (a .p)) (omega arith))
+    simp (eq-eqb (paramsNumber (a .p)) 0 (range-passed (a .p) e z), eq-eqb (a .plain) (size (a .p)) (c .before .before .if2 .left ∙ s), ne-eqb (a .masks) (size (a .p)) (λ q. c .if3 .taken (q ∙ sym s)))
 
 returns-4 : tie.Need-returns-4
 unfolding encryptNumber
@@ -47,7 +46,7 @@ returns-4 c =
     let e = c .before .before .before .before .before .before .before .before .sizes-of .ensures in
     let z = c .before .before .before .before .before .before .if1 .left in
     let s = size-passed (a .p) e z in
-    simp (eq-eqb (paramsNumber (a .p)) 0 (range-passed (a .p) e z), eq-eqb (a .plain) (size (a .p)) (omega arith), eq-eqb (a .masks) (size (a .p)) (omega arith), ne-eqb (a .noise) (size (a .p)) (omega arith))
+    simp (eq-eqb (paramsNumber (a .p)) 0 (range-passed (a .p) e z), eq-eqb (a .plain) (size (a .p)) (c .before .before .before .before .if2 .left ∙ s), eq-eqb (a .masks) (size (a .p)) (c .before .before .if3 .left ∙ s), ne-eqb (a .noise) (size (a .p)) (λ q. c .if4 .taken (q ∙ sym s)))
 
 returns-5 : tie.Need-returns-5
 unfolding encryptNumber
@@ -56,7 +55,7 @@ returns-5 c =
     let e = c .before .before .before .before .before .before .before .before .before .before .sizes-of .ensures in
     let z = c .before .before .before .before .before .before .before .before .if1 .left in
     let s = size-passed (a .p) e z in
-    simp (eq-eqb (paramsNumber (a .p)) 0 (range-passed (a .p) e z), eq-eqb (a .plain) (size (a .p)) (omega arith), eq-eqb (a .masks) (size (a .p)) (omega arith), eq-eqb (a .noise) (size (a .p)) (omega arith), ne-eqb (length (now (a .key))) (size (a .p)) (omega arith))
+    simp (eq-eqb (paramsNumber (a .p)) 0 (range-passed (a .p) e z), eq-eqb (a .plain) (size (a .p)) (c .before .before .before .before .before .before .if2 .left ∙ s), eq-eqb (a .masks) (size (a .p)) (c .before .before .before .before .if3 .left ∙ s), eq-eqb (a .noise) (size (a .p)) (c .before .before .if4 .left ∙ s), ne-eqb (length (now (a .key))) (size (a .p)) (λ q. c .if5 .taken (q ∙ sym s)))
 
 returns-6 : tie.Need-returns-6
 unfolding encryptNumber
@@ -65,7 +64,7 @@ returns-6 c =
     let e = c .before .before .before .before .before .before .before .before .before .before .before .before .sizes-of .ensures in
     let z = c .before .before .before .before .before .before .before .before .before .before .if1 .left in
     let s = size-passed (a .p) e z in
-    simp (eq-eqb (paramsNumber (a .p)) 0 (range-passed (a .p) e z), eq-eqb (a .plain) (size (a .p)) (omega arith), eq-eqb (a .masks) (size (a .p)) (omega arith), eq-eqb (a .noise) (size (a .p)) (omega arith), eq-eqb (length (now (a .key))) (size (a .p)) (omega arith), ne-eqb (a .la) (size (a .p)) (omega arith))
+    simp (eq-eqb (paramsNumber (a .p)) 0 (range-passed (a .p) e z), eq-eqb (a .plain) (size (a .p)) (c .before .before .before .before .before .before .before .before .if2 .left ∙ s), eq-eqb (a .masks) (size (a .p)) (c .before .before .before .before .before .before .if3 .left ∙ s), eq-eqb (a .noise) (size (a .p)) (c .before .before .before .before .if4 .left ∙ s), eq-eqb (length (now (a .key))) (size (a .p)) (c .before .before .if5 .left ∙ s), ne-eqb (a .la) (size (a .p)) (λ q. c .if6 .taken (q ∙ sym s)))
 
 returns-7 : tie.Need-returns-7
 unfolding encryptNumber
@@ -74,7 +73,7 @@ returns-7 c =
     let e = c .before .before .before .before .before .before .before .before .before .before .before .before .before .before .sizes-of .ensures in
     let z = c .before .before .before .before .before .before .before .before .before .before .before .before .if1 .left in
     let s = size-passed (a .p) e z in
-    simp (eq-eqb (paramsNumber (a .p)) 0 (range-passed (a .p) e z), eq-eqb (a .plain) (size (a .p)) (omega arith), eq-eqb (a .masks) (size (a .p)) (omega arith), eq-eqb (a .noise) (size (a .p)) (omega arith), eq-eqb (length (now (a .key))) (size (a .p)) (omega arith), eq-eqb (a .la) (size (a .p)) (omega arith), ne-eqb (a .lb) (size (a .p)) (omega arith))
+    simp (eq-eqb (paramsNumber (a .p)) 0 (range-passed (a .p) e z), eq-eqb (a .plain) (size (a .p)) (c .before .before .before .before .before .before .before .before .before .before .if2 .left ∙ s), eq-eqb (a .masks) (size (a .p)) (c .before .before .before .before .before .before .before .before .if3 .left ∙ s), eq-eqb (a .noise) (size (a .p)) (c .before .before .before .before .before .before .if4 .left ∙ s), eq-eqb (length (now (a .key))) (size (a .p)) (c .before .before .before .before .if5 .left ∙ s), eq-eqb (a .la) (size (a .p)) (c .before .before .if6 .left ∙ s), ne-eqb (a .lb) (size (a .p)) (λ q. c .if7 .taken (q ∙ sym s)))
 
 key-number-requires : tie.Need-key-number-requires
 key-number-requires c κs = search needs
@@ -86,7 +85,7 @@ returns-8 c =
     let e = c .before .before .before .before .before .before .before .before .before .before .before .before .before .before .before .sizes-of .ensures in
     let z = c .before .before .before .before .before .before .before .before .before .before .before .before .before .if1 .left in
     let s = size-passed (a .p) e z in
-    c .key-number .ensures ∙ sym (simp (eq-eqb (paramsNumber (a .p)) 0 (range-passed (a .p) e z), eq-eqb (a .plain) (size (a .p)) (omega arith), eq-eqb (a .masks) (size (a .p)) (omega arith), eq-eqb (a .noise) (size (a .p)) (omega arith), eq-eqb (length (now (a .key))) (size (a .p)) (omega arith), eq-eqb (a .la) (size (a .p)) (omega arith), eq-eqb (a .lb) (size (a .p)) (omega arith)))
+    c .key-number .ensures ∙ sym (simp (eq-eqb (paramsNumber (a .p)) 0 (range-passed (a .p) e z), eq-eqb (a .plain) (size (a .p)) (c .before .before .before .before .before .before .before .before .before .before .before .if2 .left ∙ s), eq-eqb (a .masks) (size (a .p)) (c .before .before .before .before .before .before .before .before .before .if3 .left ∙ s), eq-eqb (a .noise) (size (a .p)) (c .before .before .before .before .before .before .before .if4 .left ∙ s), eq-eqb (length (now (a .key))) (size (a .p)) (c .before .before .before .before .before .if5 .left ∙ s), eq-eqb (a .la) (size (a .p)) (c .before .before .before .if6 .left ∙ s), eq-eqb (a .lb) (size (a .p)) (c .before .if7 .left ∙ s)))
 
 pub encrypt-number-spec : {M : Type 1} → statement M
 encrypt-number-spec = tie.close (tie.spec sizes-of-requires returns returns-2 returns-3 returns-4 returns-5 returns-6 returns-7 key-number-requires returns-8)

@@ -1,6 +1,7 @@
 -- `trlwe::extract_number` meets its contract: each return rewrites with the tests that led there.
 -- Assumes nothing.
 use Prim.Native.Nat.{_+_}
+use mathlib.Core.Path.{sym, _∙_}
 use native.Mathlib.Omega.{arith}
 use borrow.Author.Needs.{needs}
 use borrow.Author.Tests.{eq-eqb, ne-eqb, lt-ltb, le-ltb}
@@ -29,7 +30,7 @@ returns-2 c =
     let z = c .before .before .if1 .left in
     let s = size-passed (a .p) e z in
     let l = level1-passed (a .p) e z in
-    simp (eq-eqb (paramsNumber (a .p)) 0 (range-passed (a .p) e z), ne-eqb (a .la) (size (a .p)) (omega arith))
+    simp (eq-eqb (paramsNumber (a .p)) 0 (range-passed (a .p) e z), ne-eqb (a .la) (size (a .p)) (λ q. c .if2 .taken (q ∙ sym s)))
 
 returns-3 : tie.Need-returns-3
 unfolding extractNumber
@@ -39,7 +40,7 @@ returns-3 c =
     let z = c .before .before .before .before .if1 .left in
     let s = size-passed (a .p) e z in
     let l = level1-passed (a .p) e z in
-    simp (eq-eqb (paramsNumber (a .p)) 0 (range-passed (a .p) e z), eq-eqb (a .la) (size (a .p)) (omega arith), ne-eqb (a .lb) (size (a .p)) (omega arith))
+    simp (eq-eqb (paramsNumber (a .p)) 0 (range-passed (a .p) e z), eq-eqb (a .la) (size (a .p)) (c .before .before .if2 .left ∙ s), ne-eqb (a .lb) (size (a .p)) (λ q. c .if3 .taken (q ∙ sym s)))
 
 returns-4 : tie.Need-returns-4
 unfolding extractNumber
@@ -49,7 +50,7 @@ returns-4 c =
     let z = c .before .before .before .before .before .before .if1 .left in
     let s = size-passed (a .p) e z in
     let l = level1-passed (a .p) e z in
-    simp (eq-eqb (paramsNumber (a .p)) 0 (range-passed (a .p) e z), eq-eqb (a .la) (size (a .p)) (omega arith), eq-eqb (a .lb) (size (a .p)) (omega arith), ne-eqb (a .lo) (size (a .p) + 1) (omega arith))
+    simp (eq-eqb (paramsNumber (a .p)) 0 (range-passed (a .p) e z), eq-eqb (a .la) (size (a .p)) (c .before .before .before .before .if2 .left ∙ s), eq-eqb (a .lb) (size (a .p)) (c .before .before .if3 .left ∙ s), ne-eqb (a .lo) (size (a .p) + 1) (λ q. c .if4 .taken (q ∙ sym l)))
 
 returns-5 : tie.Need-returns-5
 unfolding extractNumber
@@ -59,7 +60,7 @@ returns-5 c =
     let z = c .before .before .before .before .before .before .before .before .if1 .left in
     let s = size-passed (a .p) e z in
     let l = level1-passed (a .p) e z in
-    simp (eq-eqb (paramsNumber (a .p)) 0 (range-passed (a .p) e z), eq-eqb (a .la) (size (a .p)) (omega arith), eq-eqb (a .lb) (size (a .p)) (omega arith), eq-eqb (a .lo) (size (a .p) + 1) (omega arith), le-ltb (a .k) (size (a .p)) (omega arith))
+    simp (eq-eqb (paramsNumber (a .p)) 0 (range-passed (a .p) e z), eq-eqb (a .la) (size (a .p)) (c .before .before .before .before .before .before .if2 .left ∙ s), eq-eqb (a .lb) (size (a .p)) (c .before .before .before .before .if3 .left ∙ s), eq-eqb (a .lo) (size (a .p) + 1) (c .before .before .if4 .left ∙ l), le-ltb (a .k) (size (a .p)) (omega arith))
 
 returns-6 : tie.Need-returns-6
 unfolding extractNumber
@@ -69,7 +70,7 @@ returns-6 c =
     let z = c .before .before .before .before .before .before .before .before .if1 .left in
     let s = size-passed (a .p) e z in
     let l = level1-passed (a .p) e z in
-    simp (eq-eqb (paramsNumber (a .p)) 0 (range-passed (a .p) e z), eq-eqb (a .la) (size (a .p)) (omega arith), eq-eqb (a .lb) (size (a .p)) (omega arith), eq-eqb (a .lo) (size (a .p) + 1) (omega arith), lt-ltb (a .k) (size (a .p)) (omega arith))
+    simp (eq-eqb (paramsNumber (a .p)) 0 (range-passed (a .p) e z), eq-eqb (a .la) (size (a .p)) (c .before .before .before .before .before .before .if2 .left ∙ s), eq-eqb (a .lb) (size (a .p)) (c .before .before .before .before .if3 .left ∙ s), eq-eqb (a .lo) (size (a .p) + 1) (c .before .before .if4 .left ∙ l), lt-ltb (a .k) (size (a .p)) (omega arith))
 
 pub extract-number-spec : {M : Type 1} → statement M
 extract-number-spec = tie.close (tie.spec sizes-of-requires returns returns-2 returns-3 returns-4 returns-5 returns-6)

@@ -28,7 +28,7 @@ returns-2 c =
     let d = c .before .before .dimension-of .ensures in
     let m = some (a .p) (a .level) (λ e. c .before .if1 .left (d ∙ e)) in
     let e = d ∙ m .masks in
-    simp (eq-eqb (paramsNumber (a .p)) 0 (m .good), ne-eqb (a .m) (dimension (a .p) (a .level)) (omega arith))
+    simp (eq-eqb (paramsNumber (a .p)) 0 (m .good), ne-eqb (a .m) (dimension (a .p) (a .level)) (λ q. c .if2 .taken (q ∙ sym e)))
 
 returns-3 : tie.Need-returns-3
 unfolding encryptLengths
@@ -37,7 +37,7 @@ returns-3 c =
     let d = c .before .before .before .dimension-of .ensures in
     let m = some (a .p) (a .level) (λ e. c .before .before .if1 .left (d ∙ e)) in
     let e = d ∙ m .masks in
-    simp (eq-eqb (paramsNumber (a .p)) 0 (m .good), eq-eqb (a .m) (dimension (a .p) (a .level)) (omega arith), ne-eqb (a .k) (dimension (a .p) (a .level)) (omega arith))
+    simp (eq-eqb (paramsNumber (a .p)) 0 (m .good), eq-eqb (a .m) (dimension (a .p) (a .level)) (c .before .if2 .left ∙ e), ne-eqb (a .k) (dimension (a .p) (a .level)) (λ q. c .if3 .taken (q ∙ sym e)))
 
 add-if4 : tie.Need-add-if4
 add-if4 c =
@@ -53,7 +53,7 @@ returns-4 c =
     let d = c .before .before .before .before .dimension-of .ensures in
     let m = some (a .p) (a .level) (λ e. c .before .before .before .if1 .left (d ∙ e)) in
     let e = d ∙ m .masks in
-    simp (eq-eqb (paramsNumber (a .p)) 0 (m .good), eq-eqb (a .m) (dimension (a .p) (a .level)) (omega arith), eq-eqb (a .k) (dimension (a .p) (a .level)) (omega arith), ne-eqb (a .o) (words (a .p) (a .level)) (omega arith))
+    simp (eq-eqb (paramsNumber (a .p)) 0 (m .good), eq-eqb (a .m) (dimension (a .p) (a .level)) (c .before .before .if2 .left ∙ e), eq-eqb (a .k) (dimension (a .p) (a .level)) (c .before .if3 .left ∙ e), ne-eqb (a .o) (words (a .p) (a .level)) (λ q. c .if4 .taken (q ∙ sym (ap (λ (n : ℕ). n + 1) e))))
 
 returns-5 : tie.Need-returns-5
 unfolding encryptLengths
@@ -62,7 +62,7 @@ returns-5 c =
     let d = c .before .before .before .before .dimension-of .ensures in
     let m = some (a .p) (a .level) (λ e. c .before .before .before .if1 .left (d ∙ e)) in
     let e = d ∙ m .masks in
-    simp (eq-eqb (paramsNumber (a .p)) 0 (m .good), eq-eqb (a .m) (dimension (a .p) (a .level)) (omega arith), eq-eqb (a .k) (dimension (a .p) (a .level)) (omega arith), eq-eqb (a .o) (words (a .p) (a .level)) (omega arith))
+    simp (eq-eqb (paramsNumber (a .p)) 0 (m .good), eq-eqb (a .m) (dimension (a .p) (a .level)) (c .before .before .if2 .left ∙ e), eq-eqb (a .k) (dimension (a .p) (a .level)) (c .before .if3 .left ∙ e), eq-eqb (a .o) (words (a .p) (a .level)) (c .if4 .left ∙ ap (λ (n : ℕ). n + 1) e))
 
 pub encrypt-lengths-spec : {M : Type 1} → statement M
 encrypt-lengths-spec =

@@ -34,7 +34,7 @@ returns-2 c =
     let d = c .before .before .dimension-of .ensures in
     let m = some (a .p) (a .level) (λ e. c .before .if1 .left (d ∙ e)) in
     let e = d ∙ m .masks in
-    simp (eq-eqb (paramsNumber (a .p)) 0 (m .good), ne-eqb (a .la) (words (a .p) (a .level)) (omega arith))
+    simp (eq-eqb (paramsNumber (a .p)) 0 (m .good), ne-eqb (a .la) (words (a .p) (a .level)) (λ q. c .if2 .taken (q ∙ sym (ap (λ (n : ℕ). n + 1) e))))
 
 add-if3 : tie.Need-add-if3
 add-if3 c = search needs
@@ -46,7 +46,7 @@ returns-3 c =
     let d = c .before .before .before .dimension-of .ensures in
     let m = some (a .p) (a .level) (λ e. c .before .before .if1 .left (d ∙ e)) in
     let e = d ∙ m .masks in
-    simp (eq-eqb (paramsNumber (a .p)) 0 (m .good), eq-eqb (a .la) (words (a .p) (a .level)) (omega arith), ne-eqb (a .lb) (words (a .p) (a .level)) (omega arith))
+    simp (eq-eqb (paramsNumber (a .p)) 0 (m .good), eq-eqb (a .la) (words (a .p) (a .level)) (c .before .if2 .left ∙ ap (λ (n : ℕ). n + 1) e), ne-eqb (a .lb) (words (a .p) (a .level)) (λ q. c .if3 .taken (q ∙ sym (ap (λ (n : ℕ). n + 1) e))))
 
 add-if4 : tie.Need-add-if4
 add-if4 c = search needs
@@ -58,7 +58,7 @@ returns-4 c =
     let d = c .before .before .before .before .dimension-of .ensures in
     let m = some (a .p) (a .level) (λ e. c .before .before .before .if1 .left (d ∙ e)) in
     let e = d ∙ m .masks in
-    simp (eq-eqb (paramsNumber (a .p)) 0 (m .good), eq-eqb (a .la) (words (a .p) (a .level)) (omega arith), eq-eqb (a .lb) (words (a .p) (a .level)) (omega arith), ne-eqb (a .lo) (words (a .p) (a .level)) (omega arith))
+    simp (eq-eqb (paramsNumber (a .p)) 0 (m .good), eq-eqb (a .la) (words (a .p) (a .level)) (c .before .before .if2 .left ∙ ap (λ (n : ℕ). n + 1) e), eq-eqb (a .lb) (words (a .p) (a .level)) (c .before .if3 .left ∙ ap (λ (n : ℕ). n + 1) e), ne-eqb (a .lo) (words (a .p) (a .level)) (λ q. c .if4 .taken (q ∙ sym (ap (λ (n : ℕ). n + 1) e))))
 
 returns-5 : tie.Need-returns-5
 unfolding linearNumber
@@ -67,7 +67,7 @@ returns-5 c =
     let d = c .before .before .before .before .dimension-of .ensures in
     let m = some (a .p) (a .level) (λ e. c .before .before .before .if1 .left (d ∙ e)) in
     let e = d ∙ m .masks in
-    simp (eq-eqb (paramsNumber (a .p)) 0 (m .good), eq-eqb (a .la) (words (a .p) (a .level)) (omega arith), eq-eqb (a .lb) (words (a .p) (a .level)) (omega arith), eq-eqb (a .lo) (words (a .p) (a .level)) (omega arith))
+    simp (eq-eqb (paramsNumber (a .p)) 0 (m .good), eq-eqb (a .la) (words (a .p) (a .level)) (c .before .before .if2 .left ∙ ap (λ (n : ℕ). n + 1) e), eq-eqb (a .lb) (words (a .p) (a .level)) (c .before .if3 .left ∙ ap (λ (n : ℕ). n + 1) e), eq-eqb (a .lo) (words (a .p) (a .level)) (c .if4 .left ∙ ap (λ (n : ℕ). n + 1) e))
 
 pub linear-number-spec : {M : Type 1} → statement M
 linear-number-spec =
