@@ -2,6 +2,7 @@
 //! program does, runs under an emulator, and answers calls over its standard input and output.
 //! The program is written here from the declarations in driver/ffi.
 
+use std::collections::BTreeSet;
 use std::fs;
 use std::path::{Path, PathBuf};
 use std::process::Command;
@@ -80,11 +81,11 @@ fn one(name: &str, kinds: &[&str], with_params: bool) -> (String, String) {
     (declared, case)
 }
 
-/// The C program for the functions that the groups' files declare.
-fn source(ffi: &Path, groups: &[String]) -> String {
+/// The C program for the functions that these files declare.
+fn source(ffi: &Path, files: &BTreeSet<&str>) -> String {
     let (mut head, mut cases) = (HEAD.to_string(), String::new());
-    for group in groups {
-        let text = fs::read_to_string(ffi.join(format!("{group}.rs"))).unwrap_or_default();
+    for file in files {
+        let text = fs::read_to_string(ffi.join(format!("{file}.rs"))).unwrap_or_default();
         let with_params = text.contains("c_functions!");
         // a line with types in it is a declaration for linking, not for the bridge
         for line in text.lines().filter(|l| !l.contains(':')).filter_map(|l| l.trim().strip_prefix("fn egl_")) {
@@ -98,10 +99,10 @@ fn source(ffi: &Path, groups: &[String]) -> String {
     }
     // Three functions answer for whole lists at a time: there are millions of cases.
     let mut lists = String::new();
-    if groups.iter().any(|g| g == "params") {
+    if files.contains("params") {
         lists += "if (!strcmp(name, \"params\")) { slice a = lent(24); for (size_t i = 0; i < a.n; i++) { uint32_t *q = (uint32_t *)a.p + 6 * i; uint64_t r = egl_params_check(q[0], q[1], q[2], q[3], q[4], q[5]); out(&r, 8); } free(a.p); } else\n        ";
     }
-    if groups.iter().any(|g| g == "utils") {
+    if files.contains("utils") {
         head += "uint32_t egl_utils_f64_to_torus(double);\ndouble egl_utils_torus_to_f64(uint32_t);\n";
         lists += "if (!strcmp(name, \"words\")) { slice a = lent(8); for (size_t i = 0; i < a.n; i++) { uint32_t r = egl_utils_f64_to_torus(((double *)a.p)[i]); out(&r, 4); } free(a.p); } else\n        ";
         lists += "if (!strcmp(name, \"doubles\")) { slice a = lent(4); for (size_t i = 0; i < a.n; i++) { double r = egl_utils_torus_to_f64(((uint32_t *)a.p)[i]); out(&r, 8); } free(a.p); } else\n        ";
@@ -111,10 +112,10 @@ fn source(ffi: &Path, groups: &[String]) -> String {
 }
 
 /// Makes the program; gives the command that runs it, a word to a line.
-pub fn make(ffi: &Path, groups: &[String], archive: &Path, out: &Path) -> Result<String, String> {
+pub fn make(ffi: &Path, files: &BTreeSet<&str>, archive: &Path, out: &Path) -> Result<String, String> {
     let emulator = emulator().ok_or("no emulator for the archive's x86-64 code (qemu-x86_64)")?;
     let (file, program) = (out.join("bridge.c"), out.join("bridge"));
-    fs::write(&file, source(ffi, groups)).map_err(|e| e.to_string())?;
+    fs::write(&file, source(ffi, files)).map_err(|e| e.to_string())?;
     let compiler = "x86_64-linux-gnu-gcc";
     let status = Command::new(compiler).args(["-O2", "-w", "-o"]).arg(&program).arg(&file).arg(archive).arg("-lm").status();
     match status {

@@ -6,14 +6,20 @@ mod bridge;
 mod rules;
 
 use rules::Set;
+use std::collections::BTreeSet;
 use std::fs;
 use std::path::{Path, PathBuf};
 use std::process::{exit, Command};
 use std::sync::atomic::{AtomicUsize, Ordering};
 use std::sync::Mutex;
 
-/// The groups of comparisons, each with the archive's functions that it needs in ffi/.
-const GROUPS: [&str; 10] = ["params", "utils", "product", "tlwe", "trlwe", "key", "rotation", "trgsw", "gates", "circuit"];
+/// The groups of comparisons, in port order.
+const GROUPS: [&str; 11] = ["params", "utils", "product", "tlwe", "trlwe", "key", "rotation", "trgsw", "gates", "circuit", "encrypted"];
+
+/// The files in ffi/ with the functions that a group needs: encrypted runs are compared with single gates.
+fn declarations(group: &str) -> Vec<&str> {
+    if group == "encrypted" { vec!["gates", "encrypted"] } else { vec![group] }
+}
 
 struct Options {
     root: PathBuf,
@@ -68,9 +74,9 @@ fn sets(o: &Options) -> Vec<Set> {
     out
 }
 
-/// The functions that a group declares and the archive does not offer.
-fn missing(o: &Options, group: &str, archive: &[u8]) -> Vec<String> {
-    let path = o.root.join(format!("oracle/driver/ffi/{group}.rs"));
+/// The functions that a file declares and the archive does not offer.
+fn missing(o: &Options, file: &str, archive: &[u8]) -> Vec<String> {
+    let path = o.root.join(format!("oracle/driver/ffi/{file}.rs"));
     let text = fs::read_to_string(&path).unwrap_or_else(|e| fail(&format!("{}: {e}", path.display())));
     let names = text.split("fn egl_").skip(1).filter_map(|t| t.split('(').next()).map(|t| format!("egl_{t}"));
     let held = |name: &String| {
@@ -91,7 +97,7 @@ fn groups(o: &Options) -> Vec<String> {
         if o.groups.is_some() && !asked {
             continue;
         }
-        let lacks = missing(o, g, table);
+        let lacks: Vec<String> = declarations(g).iter().flat_map(|f| missing(o, f, table)).collect();
         if lacks.is_empty() {
             out.push(g.to_string());
         } else if asked {
@@ -228,7 +234,8 @@ fn main() {
     }
     if bridge::needed(&archive) {
         args.extend(words(&["--cfg", "bridge"]));
-        let command = bridge::make(&driver.join("ffi"), &groups, &o.archive, &out).unwrap_or_else(|e| fail(&e));
+        let files: BTreeSet<&str> = groups.iter().flat_map(|g| declarations(g)).collect();
+        let command = bridge::make(&driver.join("ffi"), &files, &o.archive, &out).unwrap_or_else(|e| fail(&e));
         std::env::set_var("ORACLE_BRIDGE", command);
     } else {
         args.extend(["-C".into(), format!("link-arg={}", o.archive.display()), "-C".into(), "link-arg=-lm".into()]);

@@ -2,6 +2,7 @@
 //! Expected numbers come from `table`, expected contents from the routine's reference
 //! (the original, or the exact steps of `exact`).
 
+use crate::circuits::{self, Circuit};
 use crate::source::Source;
 use crate::table::{self, Sizes};
 use oracle_api::Original;
@@ -31,6 +32,7 @@ pub enum Kind {
 }
 
 pub type Size = fn(&Sizes) -> usize;
+pub type Count = fn(&Circuit) -> usize;
 
 /// What stands at an argument's place.
 pub enum Slot {
@@ -44,6 +46,13 @@ pub enum Slot {
     Number(u32),
     Turn,
     Modulus,
+    /// A circuit's bytes.
+    Circuit,
+    /// Ciphertexts at level 0, as many as the circuit tells.
+    Ciphers(Count),
+    CiphersOut(Count),
+    /// A gate's index in the circuit; one that no gate has is allowed.
+    Gate,
     /// Not passed: the number that stands in the answer's high half, 0 beside a refusal.
     Value,
 }
@@ -104,6 +113,12 @@ impl Arg {
             _ => panic!("not words"),
         }
     }
+    pub fn b(&self) -> &[u8] {
+        match self {
+            Arg::Bytes(v) => v,
+            _ => panic!("not bytes"),
+        }
+    }
     pub fn num(&self) -> u64 {
         match self {
             Arg::Num(x) => *x,
@@ -136,6 +151,12 @@ impl Tally {
         }
     }
 
+    /// One comparison of words.
+    pub fn same_words(&mut self, got: &[u32], want: &[u32], what: impl FnOnce() -> String) {
+        self.words += want.len() as u64;
+        self.same(got == want, what);
+    }
+
     pub fn differ(&mut self, what: String) {
         self.differences += 1;
         if self.differences <= 5 {
@@ -152,7 +173,8 @@ impl Tally {
 
     /// One case against its reference.
     pub fn check(&mut self, r: &Routine, set: &Set, p: &[u32; 6], args: Vec<Arg>) {
-        let number = table::number(p, r.slots, &args);
+        let wanted = table::answer(p, r.slots, &args);
+        let number = wanted as u32;
         let mut want = args.clone();
         if number == 0 && !(r.reference)(set, &mut want) {
             return;
@@ -172,15 +194,15 @@ impl Tally {
         self.cases += 1;
         self.refusals += (number != 0) as u64;
         self.words += 1;
-        if answer != number as u64 {
-            self.differ(format!("{} at {p:?}: answer {answer:#x}, wanted {number}", r.name));
+        if answer != wanted {
+            self.differ(format!("{} at {p:?}: answer {answer:#x}, wanted {wanted:#x}", r.name));
         }
         for (i, slot) in r.slots.iter().enumerate() {
-            if let Slot::Out(..) = slot {
+            if let Slot::Out(..) | Slot::CiphersOut(_) = slot {
                 self.words += got[i].len() as u64;
             }
             if let Some(k) = got[i].differs(&want[i]) {
-                self.differ(format!("{} at {p:?}: argument {i} differs at {k} (answer {answer}, wanted {number})", r.name));
+                self.differ(format!("{} at {p:?}: argument {i} differs at {k} (answer {answer:#x}, wanted {wanted:#x})", r.name));
                 break;
             }
         }
@@ -196,7 +218,7 @@ fn line(r: &Routine, p: &[u32; 6], args: &[Arg], number: u32, want: &[Arg]) -> S
     }
     out += &format!(" => {number}");
     for (slot, a) in r.slots.iter().zip(want) {
-        if let Slot::Out(..) | Slot::Value = slot {
+        if let Slot::Out(..) | Slot::CiphersOut(_) | Slot::Value = slot {
             out += &format!(" | {}", a.text());
         }
     }
@@ -216,6 +238,8 @@ fn filled(source: &mut Source, kind: Kind, len: usize) -> Arg {
 pub fn good(source: &mut Source, r: &Routine, p: &[u32; 6]) -> Vec<Arg> {
     let s = Sizes::of(p);
     let mut out = Vec::new();
+    // the circuit that later arguments go by
+    let mut circuit = Circuit { inputs: 0, gates: Vec::new(), outputs: Vec::new() };
     for slot in r.slots {
         out.push(match slot {
             Slot::In(kind, len) => filled(source, *kind, len(&s)),
@@ -232,10 +256,29 @@ pub fn good(source: &mut Source, r: &Routine, p: &[u32; 6]) -> Vec<Arg> {
             Slot::Number(_) => Arg::Num(if source.below(2) == 0 { source.below(200) } else { source.next() }),
             Slot::Turn => Arg::Turn(source.double()),
             Slot::Modulus => Arg::Num(2 << source.below(6)),
+            Slot::Circuit => {
+                let bytes = small_circuit(source, circuits::KINDS);
+                circuit = circuits::read(&bytes).ok().expect("a valid circuit");
+                Arg::Bytes(bytes)
+            }
+            Slot::Ciphers(count) | Slot::CiphersOut(count) => Arg::Words(source.words(count(&circuit) * (s.n + 1))),
+            Slot::Gate => {
+                let gates = circuit.gates.len() as u64;
+                let beyond = source.of(&[gates, gates + 1, 1 << 32, u64::MAX]);
+                Arg::Num(if source.below(4) == 0 { beyond } else { source.below(gates + 1) })
+            }
             Slot::Value => Arg::Num(u64::MAX),
         });
     }
     out
+}
+
+/// A valid circuit of at most 12 gates, now and then without inputs or without gates.
+pub fn small_circuit(source: &mut Source, kinds: u64) -> Vec<u8> {
+    let inputs = source.below(6) as usize;
+    let gates = if source.below(8) == 0 { 0 } else { 1 + source.below(12) as usize };
+    let outputs = 1 + source.below(5) as usize;
+    circuits::valid(source, kinds, if gates == 0 { inputs + 1 } else { inputs }, gates, outputs)
 }
 
 fn resized(source: &mut Source, arg: &mut Arg) {
@@ -283,7 +326,8 @@ pub fn faulty(source: &mut Source, r: &Routine) -> ([u32; 6], Vec<Arg>) {
                 *x = source.of(&[most + 1, most + 2, 2 * most + 7, u32::MAX as u64, u64::MAX >> (64 - bits)]);
             }
             (Slot::Modulus, Arg::Num(m)) => *m = source.of(&[0, 1, 3, 6, 63, 65, 128, 1 << 32, (1 << 32) + 2, 1 << 63, u64::MAX]),
-            (Slot::In(..) | Slot::Out(..) | Slot::Key(_), a) => resized(source, a),
+            (Slot::Circuit, Arg::Bytes(b)) => circuits::damage(source, b),
+            (Slot::In(..) | Slot::Out(..) | Slot::Key(_) | Slot::Ciphers(_) | Slot::CiphersOut(_), a) => resized(source, a),
             _ => {}
         }
     }

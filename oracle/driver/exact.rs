@@ -125,19 +125,29 @@ pub fn extract(a: &[u32], b: &[u32], k: usize) -> Vec<u32> {
     out
 }
 
-pub fn switch(p: &[u32; 6], src: &[u32], key: &[u32]) -> Vec<u32> {
+/// The rows of the switching key that the fields of src choose; a field of 0 chooses none.
+pub fn chosen(p: &[u32; 6], src: &[u32]) -> Vec<usize> {
     let s = Sizes::of(p);
-    let mut out = vec![0; s.n + 1];
-    out[s.n] = src[s.ring];
+    let mut out = Vec::new();
     for i in 0..s.ring {
         let a = src[i].wrapping_add(1 << (31 - p[4] * p[5]));
         for j in 0..s.t {
             let k = (a >> (32 - (j as u32 + 1) * p[4])) as usize % s.base;
             if k != 0 {
-                let row = (s.base * s.t * i + s.base * j + k) * (s.n + 1);
-                out = minus(&out, &key[row..row + s.n + 1]);
+                out.push(s.base * s.t * i + s.base * j + k);
             }
         }
+    }
+    out
+}
+
+pub fn switch(p: &[u32; 6], src: &[u32], key: &[u32]) -> Vec<u32> {
+    let s = Sizes::of(p);
+    let mut out = vec![0; s.n + 1];
+    out[s.n] = src[s.ring];
+    for row in chosen(p, src) {
+        let at = row * (s.n + 1);
+        out = minus(&out, &key[at..at + s.n + 1]);
     }
     out
 }
@@ -172,7 +182,8 @@ fn sum(name: &str, a: &[u32], b: &[u32]) -> Vec<u32> {
     out
 }
 
-fn turned(p: &[u32; 6], name: &str, a: &[u32], b: &[u32], bootstrapping: &[u32]) -> Vec<u32> {
+/// What a two-input gate switches: its sum rotated and extracted.
+pub fn turned(p: &[u32; 6], name: &str, a: &[u32], b: &[u32], bootstrapping: &[u32]) -> Vec<u32> {
     let (x, y) = blind_rotate(p, &sum(name, a, b), bootstrapping);
     extract(&x, &y, 0)
 }
@@ -181,11 +192,16 @@ pub fn gate(p: &[u32; 6], name: &str, a: &[u32], b: &[u32], switching: &[u32], b
     switch(p, &turned(p, name, a, b, bootstrapping), switching)
 }
 
-pub fn mux(p: &[u32; 6], a: &[u32], b: &[u32], c: &[u32], switching: &[u32], bootstrapping: &[u32]) -> Vec<u32> {
+/// What mux switches.
+pub fn both_turned(p: &[u32; 6], a: &[u32], b: &[u32], c: &[u32], bootstrapping: &[u32]) -> Vec<u32> {
     let mut both = plus(&turned(p, "and", a, b, bootstrapping), &turned(p, "and_ny", a, c, bootstrapping));
     let last = both.len() - 1;
     both[last] = both[last].wrapping_add(1 << 29);
-    switch(p, &both, switching)
+    both
+}
+
+pub fn mux(p: &[u32; 6], a: &[u32], b: &[u32], c: &[u32], switching: &[u32], bootstrapping: &[u32]) -> Vec<u32> {
+    switch(p, &both_turned(p, a, b, c, bootstrapping), switching)
 }
 
 pub fn not(a: &[u32]) -> Vec<u32> {

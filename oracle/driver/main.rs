@@ -5,7 +5,9 @@
 #[cfg(bridge)]
 mod bridge;
 mod case;
+mod circuits;
 mod exact;
+mod exact_run;
 mod ffi;
 mod groups;
 mod honest;

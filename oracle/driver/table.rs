@@ -1,6 +1,7 @@
 //! An independent model of document 01's table of refusals: which number a call must give.
 
 use crate::case::{Arg, Slot};
+use crate::circuits;
 
 /// The numbers that lengths and bounds depend on, for parameters in range.
 pub struct Sizes {
@@ -39,8 +40,35 @@ pub fn in_range(p: &[u32; 6]) -> bool {
         && basebit * t <= 30
 }
 
-/// The number by the table: the first check, in its order, that fails.
 pub fn number(p: &[u32; 6], slots: &[Slot], args: &[Arg]) -> u32 {
+    answer(p, slots, args) as u32
+}
+
+/// The number by the table, of the first check, in its order, that fails; above it the place of a circuit's fault.
+pub fn answer(p: &[u32; 6], slots: &[Slot], args: &[Arg]) -> u64 {
+    match apart(p, slots, args) {
+        0 => of_circuit(p, slots, args),
+        number => number as u64,
+    }
+}
+
+/// The circuit's fault, or 2 for a length that depends on the circuit: those come last.
+fn of_circuit(p: &[u32; 6], slots: &[Slot], args: &[Arg]) -> u64 {
+    let Some(at) = slots.iter().position(|s| matches!(s, Slot::Circuit)) else { return 0 };
+    let circuit = match circuits::read(args[at].b()) {
+        Ok(c) => c,
+        Err((number, place)) => return number | (place as u64) << 32,
+    };
+    let words = p[0] as usize + 1;
+    let fits = |(slot, arg): (&Slot, &Arg)| match slot {
+        Slot::Ciphers(count) | Slot::CiphersOut(count) => arg.len() == count(&circuit) * words,
+        _ => true,
+    };
+    if slots.iter().zip(args).all(fits) { 0 } else { 2 }
+}
+
+/// The number of the first check that does not look at a circuit.
+fn apart(p: &[u32; 6], slots: &[Slot], args: &[Arg]) -> u32 {
     if !in_range(p) {
         return 1;
     }

@@ -108,7 +108,10 @@ pub fn slice(arg: &mut Arg) -> (*mut u8, usize) {
 
 #[cfg(group_circuit)]
 pub mod circuit;
-#[cfg(group_gates)]
+#[cfg(group_encrypted)]
+pub mod encrypted;
+// encrypted runs are compared with single gates
+#[cfg(any(group_gates, group_encrypted))]
 pub mod gates;
 #[cfg(group_key)]
 pub mod key;

@@ -12,11 +12,11 @@ use oracle_api::Cloud;
 
 const C: Slot = Slot::In(Kind::Words, |s| s.n + 1);
 const OUT: Slot = Slot::Out(Kind::Words, |s| s.n + 1);
-const SWITCHING: Slot = Slot::In(Kind::Words, |s| s.switching());
-const BOOTSTRAPPING: Slot = Slot::In(Kind::Words, |s| s.bootstrapping());
+pub const SWITCHING: Slot = Slot::In(Kind::Words, |s| s.switching());
+pub const BOOTSTRAPPING: Slot = Slot::In(Kind::Words, |s| s.bootstrapping());
 
 /// Steps of a gate with one rotation.
-fn cost(s: &Sizes) -> usize {
+pub fn cost(s: &Sizes) -> usize {
     s.n * (4 * s.l * s.ring * s.ring + 8 * s.l * s.ring) + 4 * s.ring * s.t * s.n + 2 * s.switching() + 200
 }
 
@@ -85,7 +85,7 @@ pub static ROUTINES: [Routine; 15] = [
 ];
 
 /// Calls the library's gate; nothing where it refuses.
-fn library(p: &[u32; 6], name: &str, inputs: &[&[u32]], keys: &Keys) -> Option<Vec<u32>> {
+pub fn library(p: &[u32; 6], name: &str, inputs: &[&[u32]], keys: &Keys) -> Option<Vec<u32>> {
     let r = ROUTINES.iter().find(|r| r.name.strip_prefix("gates_") == Some(name)).unwrap();
     let mut args: Vec<Arg> = inputs.iter().map(|x| Arg::Words(x.to_vec())).collect();
     args.push(Arg::Words(keys.switching.clone()));

@@ -2,7 +2,10 @@
 
 #[cfg(group_circuit)]
 pub mod circuit;
-#[cfg(group_gates)]
+#[cfg(group_encrypted)]
+pub mod encrypted;
+// encrypted runs are compared with single gates
+#[cfg(any(group_gates, group_encrypted))]
 pub mod gates;
 #[cfg(group_key)]
 pub mod key;
@@ -60,6 +63,8 @@ pub fn groups() -> Vec<Group> {
         Group { name: "gates", run: Run::EachSet(gates::run), routines: &gates::ROUTINES },
         #[cfg(group_circuit)]
         Group { name: "circuit", run: Run::Once(circuit::run), routines: &[] },
+        #[cfg(group_encrypted)]
+        Group { name: "encrypted", run: Run::EachSet(encrypted::run), routines: &[] },
     ]
 }
 
