@@ -30,6 +30,12 @@ declare! {
     fn egl_gates_nand(a: In, a_len: usize, b: In, b_len: usize, s: In, s_len: usize, k: In, k_len: usize, out: Out, out_len: usize);
 }
 
+#[cfg(group_circuit)]
+unsafe extern "C" {
+    // no parameters travel with a circuit
+    fn egl_circuit_check(bytes: *const u8, bytes_len: usize) -> u64;
+}
+
 macro_rules! done {
     ($p:ident, $f:ident($($a:expr),*)) => {
         assert_eq!(unsafe { $f($p[0], $p[1], $p[2], $p[3], $p[4], $p[5], $($a),*) }, 0, "the library refused")
@@ -77,4 +83,10 @@ pub fn blind_rotate(p: &[u32; 6], src: &[u32], key: &[u32], x: &mut [u32], y: &m
 #[cfg(group_gates)]
 pub fn nand(p: &[u32; 6], a: &[u32], b: &[u32], s: &[u32], k: &[u32], out: &mut [u32]) {
     done!(p, egl_gates_nand(a.as_ptr(), a.len(), b.as_ptr(), b.len(), s.as_ptr(), s.len(), k.as_ptr(), k.len(), out.as_mut_ptr(), out.len()))
+}
+
+/// A refusal is an answer here: number, and above it the place.
+#[cfg(group_circuit)]
+pub fn check_circuit(bytes: &[u8]) -> u64 {
+    unsafe { egl_circuit_check(bytes.as_ptr(), bytes.len()) }
 }

@@ -127,6 +127,41 @@ fn gate() {
     table("A gate at the 128-bit set; bar: at most 1.2 of its products and its switching", ways, 5, "8,400 products and a switching");
 }
 
+/// A valid circuit of the largest size: 256 inputs, 1,024 gates of all kinds, 64 outputs.
+#[cfg(group_circuit)]
+fn largest() -> Vec<u8> {
+    let mut draw = words(4 * 1024 + 64, 15).into_iter();
+    let mut below = |bound: usize| draw.next().expect("words enough") as usize % bound;
+    let mut fields = vec![1, 256, 1024, 64];
+    for g in 0..1024 {
+        let kind = below(14);
+        fields.push(kind);
+        fields.extend((0..3).map(|i| if i < plain::NEEDS[kind] { below(256 + g) } else { 0 }));
+    }
+    fields.extend((0..64).map(|_| below(256 + 1024)));
+    let mut bytes = b"EGL".to_vec();
+    bytes.extend(fields.iter().flat_map(|&x| (x as u16).to_le_bytes()));
+    bytes
+}
+
+#[cfg(group_circuit)]
+fn circuits() {
+    let bytes = largest();
+    assert!(library::check_circuit(&bytes) == 0, "the library refused");
+    assert!(plain::check_circuit(&bytes) == 0, "the plain reader refused");
+    // both must find the same fault at the same place
+    for at in 0..bytes.len() {
+        let mut other = bytes.clone();
+        other[at] ^= 0x85;
+        assert!(library::check_circuit(&other) == plain::check_circuit(&other), "the two readers differ on a change at {at}");
+    }
+    let ways = vec![
+        way("library, circuit_check", || assert!(library::check_circuit(black_box(&bytes)) == 0)),
+        way("plain Rust", || assert!(plain::check_circuit(black_box(&bytes)) == 0)),
+    ];
+    table("Reading the largest circuit (256, 1,024, 64); bar: library at most 1.2 of plain Rust", ways, 5000, "plain Rust");
+}
+
 fn main() {
     // a part may be named on the command line, so that one table can be had alone
     let asked: Vec<String> = std::env::args().skip(1).collect();
@@ -146,5 +181,9 @@ fn main() {
     #[cfg(group_gates)]
     if wanted("gates") {
         gate();
+    }
+    #[cfg(group_circuit)]
+    if wanted("circuit") {
+        circuits();
     }
 }

@@ -93,3 +93,55 @@ pub fn switch(src: &[u32], key: &[u32], n: usize, basebit: u32, t: u32, out: &mu
         }
     }
 }
+
+/// Operands that each kind of gate needs.
+pub const NEEDS: [u8; 14] = [0, 0, 1, 2, 2, 2, 2, 2, 2, 2, 2, 2, 2, 3];
+
+/// Reads a circuit with all of the library's checks: 0, or the number of the first fault and above it its place.
+pub fn check_circuit(bytes: &[u8]) -> u64 {
+    let fault = |number: u64, place: usize| number | (place as u64) << 32;
+    if bytes.len() < 11 {
+        return fault(8, 0);
+    }
+    let field = |at: usize| u16::from_le_bytes([bytes[at], bytes[at + 1]]) as usize;
+    if !bytes.starts_with(b"EGL") {
+        return fault(6, 0);
+    }
+    if field(3) != 1 {
+        return fault(7, 3);
+    }
+    let (inputs, gates, outputs) = (field(5), field(7), field(9));
+    if inputs > 256 {
+        return fault(8, 5);
+    }
+    if gates > 1024 {
+        return fault(8, 7);
+    }
+    if outputs == 0 || outputs > 64 {
+        return fault(8, 9);
+    }
+    if bytes.len() != 11 + 8 * gates + 2 * outputs {
+        return fault(8, 11);
+    }
+    let (list, last) = bytes[11..].split_at(8 * gates);
+    for (g, gate) in list.chunks_exact(8).enumerate() {
+        let at = 11 + 8 * g;
+        let Some(&needs) = NEEDS.get(gate[0] as usize) else { return fault(9, at) };
+        if gate[1] != 0 {
+            return fault(9, at + 1);
+        }
+        for i in 0..3 {
+            let wire = u16::from_le_bytes([gate[2 + 2 * i], gate[3 + 2 * i]]) as usize;
+            let bound = if i < needs as usize { inputs + g } else { 1 };
+            if wire >= bound {
+                return fault(9, at + 2 + 2 * i);
+            }
+        }
+    }
+    for (o, wire) in last.chunks_exact(2).enumerate() {
+        if u16::from_le_bytes([wire[0], wire[1]]) as usize >= inputs + gates {
+            return fault(10, 11 + 8 * gates + 2 * o);
+        }
+    }
+    0
+}
