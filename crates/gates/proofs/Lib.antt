@@ -2,9 +2,5 @@ pub mod Checks
 pub mod Stores
 pub mod Tables
 pub mod Chain
-pub mod Track
-pub mod Round
-pub mod Phases
-pub mod Meaning
 pub mod Uses
 pub mod Determined

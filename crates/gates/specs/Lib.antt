@@ -2,4 +2,3 @@ pub mod Kind
 pub mod Sum
 pub mod Refusals
 pub mod Gate
-pub mod Drift

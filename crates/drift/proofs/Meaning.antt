@@ -27,17 +27,17 @@ use Rattle.blind_rotation.specs.Drift.{turnTo, driftTo}
 use Rattle.switching.specs.Switched.{switched}
 use Rattle.switching.specs.Drift.{switchingDrift}
 use Rattle.switching.proofs.Phase.{switching-phase}
 use Rattle.gates.specs.declared.Kind.{Kind}
 use Rattle.gates.specs.declared.Kind.the-variants.{Or, And, AndNy}
 use Rattle.gates.specs.Kind.{meaning, eighth, sumOf, standsFor}
 use Rattle.gates.specs.Sum.{summed, muxSum}
 use Rattle.gates.specs.Gate.{rotatedSample, bootstrapped, gated, muxed, muxedNaive}
-use Rattle.gates.specs.Drift.{roundingDrift, broughtIn, inside, extractedDrift, gateDrift, muxDrift}
+use Rattle.drift.specs.Drift.{roundingDrift, broughtIn, inside, extractedDrift, gateDrift, muxDrift}
 use Rattle.gates.proofs.Tables.{table}
-use Rattle.gates.proofs.Round.{turned-front}
-use Rattle.gates.proofs.Track.{tracked}
-use Rattle.gates.proofs.Phases.{key-bit, brought, mux-phase, not-drift}
+use Rattle.drift.proofs.Round.{turned-front}
+use Rattle.drift.proofs.Track.{tracked}
+use Rattle.drift.proofs.Phases.{key-bit, brought, mux-phase, not-drift}
 use Rattle.gates.proofs.Stores.{at-plus}
 
 -- a drift behind a bit
 behind : (b d s : ℕ) → ((b + d) % Q + s) % Q ≡ (b + (d + s) % Q) % Q

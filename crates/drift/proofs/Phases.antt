@@ -22,12 +22,12 @@ use Rattle.tlwe.specs.Key.{binary, phaseOf}
 use Rattle.tlwe.specs.Plain.{bitWord}
 use Rattle.tlwe.specs.Linear.{negative}
 use Rattle.tlwe.proofs.Phases.{phase-combine, phase-add, phase-neg}
 use Rattle.gates.specs.declared.Kind.{Kind}
 use Rattle.gates.specs.Kind.{weightsOf, eighth, sumOf}
 use Rattle.gates.specs.Sum.{lastWord, summed, muxSum, constantWord, constantOf}
-use Rattle.gates.specs.Drift.{roundingDrift, broughtIn}
+use Rattle.drift.specs.Drift.{roundingDrift, broughtIn}
 use Rattle.gates.proofs.Stores.{at-combined, at-plus}
 use Rattle.gates.proofs.Tables.{sum-words}
 
 -- ---- keys
 

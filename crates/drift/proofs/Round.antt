@@ -34,9 +34,9 @@ use Rattle.tlwe.specs.Plain.{bitWord}
 use Rattle.tlwe.specs.Decrypt.{bitOf}
 use Rattle.tlwe.proofs.Inverse.{inside-cases, bit-back}
 use Rattle.blind_rotation.specs.Drift.{turnTo}
 use Rattle.gates.specs.Kind.{eighth, standsFor}
-use Rattle.gates.proofs.Track.{turn-sum}
-use Rattle.gates.specs.Drift.{remainder, selected, roundingDrift, inside}
+use Rattle.drift.proofs.Track.{turn-sum}
+use Rattle.drift.specs.Drift.{remainder, selected, roundingDrift, inside}
 
 source-below : (N k i : ℕ) → 0 < N → source N k i < N + N
 unfolding source

@@ -1,0 +1,4 @@
+pub mod Track
+pub mod Round
+pub mod Phases
+pub mod Meaning
