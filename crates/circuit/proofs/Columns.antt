@@ -5,9 +5,10 @@ use mathlib.Core.Bool.{Bool, true, false, not}
 use mathlib.Core.List.{List, [], _∷_}
 use Prim.Native.Nat.{ℕ, zero, suc, _+_, _*_, _/_, _%_, _^_, _≤_, _<_}
 use native.Mathlib.Omega.{arith}
-use lib.Dec.{leb, eqb, eqb→eq, leb→le, lit≤, lit<}
+use lib.Dec.{leb, ltb, eqb, eqb→eq, leb→le, lit≤, lit<}
 use lib.ListN.{length, getD, List·getD-eq-default}
 use mir.Val.{boolByte}
+use Rattle.params.specs.Refusal.{pick}
 use Rattle.circuit.specs.Kinds.{Kind, kinds, kindOf, row}
 use Rattle.circuit.specs.Plain.{truth, bit, meaningOf}
 use Rattle.circuit.proofs.Table.{both, both-left, both-right, every, entry}
@@ -36,6 +37,17 @@ operand-entry k h =
     let t = entry operand-right operandTable tt k (omega arith) in
     let x = getD operandTable k 0 in
     (eqb→eq x (kindOf k .operands) (both-left (eqb x (kindOf k .operands)) (leb x 3) t), leb→le x 3 (both-right (eqb x (kindOf k .operands)) (leb x 3) t))
+
+-- the same by comparisons
+byComparing : ℕ → ℕ
+byComparing k = pick (ltb k 2) 0 (pick (ltb k 3) 1 (pick (ltb k 13) 2 3))
+
+compared-right : ℕ → ℕ → Bool
+compared-right k x = eqb x (byComparing k)
+
+pub operands-compared : (k : ℕ) → k ≤ 13 → kindOf k .operands ≡ pick (ltb k 2) 0 (pick (ltb k 3) 1 (pick (ltb k 13) 2 3))
+unfolding compared-right byComparing
+operands-compared k h = sym (operand-entry k h .0) ∙ eqb→eq (getD operandTable k 0) (byComparing k) (entry compared-right operandTable tt k (omega arith))
 
 -- ---- the column of work
 

@@ -1,8 +1,9 @@
 // The fields of a circuit's bytes. Each is total: past the end of the bytes stands 0.
 use crate::Shape;
 ghost use mathlib.Core.Path.{_≡_};
-ghost use Prim.Native.Nat.{_<_};
+ghost use Prim.Native.Nat.{_+_, _<_};
 ghost use lib.Dec.{ltb};
+ghost use lib.ListN.{length};
 ghost use Rattle.ring.specs.Word.{at};
 ghost use Rattle.params.specs.Refusal.{pick};
 ghost use Rattle.circuit.specs.Form.{fieldAt, gates, outputs, kindAt, operandAt, outputAt, countsOf};
@@ -32,6 +33,26 @@ pub(crate) fn field(bytes: &[u8], i: usize) -> usize
 {
     let low = byte(bytes, i);
     let high = byte(bytes, i + 1);
+    low + 256 * high
+}
+
+// The byte at place i, which there is.
+pub(crate) fn byte_there(bytes: &[u8], i: usize) -> usize
+    requires { ⌜ i < length (now bytes) ⌝ }
+    ensures { λ r. ⌜ r ≡ at (now (bytes .entry)) i ⌝ }
+    ensures { λ r. ⌜ r < 256 ⌝ }
+{
+    wide(bytes[i])
+}
+
+// The 16-bit field at place i, which there is: reading a gate takes no test of its length.
+pub(crate) fn field_there(bytes: &[u8], i: usize) -> usize
+    requires { ⌜ i + 1 < length (now bytes) ⌝ }
+    ensures { λ r. ⌜ r ≡ fieldAt (now (bytes .entry)) i ⌝ }
+    ensures { λ r. ⌜ r < 65536 ⌝ }
+{
+    let low = byte_there(bytes, i);
+    let high = byte_there(bytes, i + 1);
     low + 256 * high
 }
 

@@ -1,12 +1,17 @@
 // Reading a circuit: the answer to its bytes.
-use crate::fields::byte;
+use crate::fields::byte_there;
 use crate::fields::field;
+use crate::fields::field_there;
 use crate::kinds::operands;
 use params::Answer;
 ghost use mathlib.Core.Path.{_≡_};
-ghost use Prim.Native.Nat.{_≤_, _<_};
-ghost use Rattle.circuit.specs.Form.{gates, outputs, operandGood, countsAnswer, headAnswer};
+ghost use Prim.Native.Nat.{_+_, _*_, _≤_, _<_};
+ghost use lib.Dec.{ltb, eqb};
+ghost use lib.ListN.{length};
+ghost use Rattle.params.specs.Refusal.{pick};
+ghost use Rattle.circuit.specs.Form.{inputs, gates, outputs, kindAt, countsAnswer, headAnswer};
 ghost use Rattle.circuit.specs.Form.{operandsAnswer, gateAnswer, outputAnswer, first, answerOf};
+ghost use Rattle.circuit.specs.Valid.{Head};
 
 // The counts in order, then the length.
 fn counts(bytes: &[u8]) -> Answer
@@ -90,41 +95,37 @@ fn head(bytes: &[u8]) -> Answer
     counts(bytes)
 }
 
-// Operand x of gate g.
-fn operand_good(bytes: &[u8], g: usize, x: usize) -> bool
-    requires { ⌜ (g < 65536) × (x < 3) ⌝ }
-    ensures { λ r. ⌜ r ≡ operandGood (now (bytes .entry)) g x ⌝ }
+// Operand x of a gate, being this wire: one that the kind needs is below the gate's own wire, another is 0.
+fn operand_good(needed: usize, own: usize, x: usize, wire: usize) -> bool
+    ensures { λ r. ⌜ r ≡ pick (ltb x needed) (ltb wire own) (eqb wire 0) ⌝ }
 {
-    let at = 11 + 8 * g;
-    let needed = operands(byte(bytes, at));
-    let value = field(bytes, at + 2 + 2 * x);
     if x < needed {
-        let own = field(bytes, 5) + g;
-        return value < own;
+        return wire < own;
     }
-    value == 0
+    wire == 0
 }
 
 // The operands of gate g, in order.
-fn gate_operands(bytes: &[u8], g: usize) -> Answer
-    requires { ⌜ g < 65536 ⌝ }
+fn gate_operands(bytes: &[u8], g: usize, own: usize, kind: usize) -> Answer
+    requires { ⌜ (g < 65536) × (19 + 8 * g ≤ length (now bytes)) × (own ≡ inputs (now bytes) + g) × (kind ≡ kindAt (now bytes) g) ⌝ }
     ensures { λ r. ⌜ r ≡ operandsAnswer (now (bytes .entry)) g ⌝ }
 {
     let at = 11 + 8 * g;
     let place = at as u32;
-    if !operand_good(bytes, g, 0) {
+    let needed = operands(kind);
+    if !operand_good(needed, own, 0, field_there(bytes, at + 2)) {
         return Answer {
             number: 9,
             place: place + 2,
         };
     }
-    if !operand_good(bytes, g, 1) {
+    if !operand_good(needed, own, 1, field_there(bytes, at + 4)) {
         return Answer {
             number: 9,
             place: place + 4,
         };
     }
-    if !operand_good(bytes, g, 2) {
+    if !operand_good(needed, own, 2, field_there(bytes, at + 6)) {
         return Answer {
             number: 9,
             place: place + 6,
@@ -136,25 +137,25 @@ fn gate_operands(bytes: &[u8], g: usize) -> Answer
     }
 }
 
-// Gate g, field by field.
-fn gate(bytes: &[u8], g: usize) -> Answer
-    requires { ⌜ g < 65536 ⌝ }
+// Gate g, field by field; its own wire is inputs + g.
+fn gate(bytes: &[u8], g: usize, own: usize) -> Answer
+    requires { ⌜ (g < 65536) × (19 + 8 * g ≤ length (now bytes)) × (own ≡ inputs (now bytes) + g) ⌝ }
     ensures { λ r. ⌜ r ≡ gateAnswer (now (bytes .entry)) g ⌝ }
 {
     let at = 11 + 8 * g;
     let place = at as u32;
-    let kind = byte(bytes, at);
+    let kind = byte_there(bytes, at);
     if 13 < kind {
         return Answer { number: 9, place };
     }
-    let zero = byte(bytes, at + 1);
+    let zero = byte_there(bytes, at + 1);
     if zero != 0 {
         return Answer {
             number: 9,
             place: place + 1,
         };
     }
-    gate_operands(bytes, g)
+    gate_operands(bytes, g, own, kind)
 }
 
 // Output o.
@@ -178,12 +179,14 @@ fn output(bytes: &[u8], o: usize) -> Answer
 
 // The first gate that is refused.
 fn all_gates(bytes: &[u8]) -> Answer
+    requires { ⌜ Head (now bytes) ⌝ }
     ensures { λ r. ⌜ r ≡ first (gateAnswer (now (bytes .entry))) 0 (gates (now (bytes .entry))) ⌝ }
 {
+    let inputs = field(bytes, 5);
     let n = field(bytes, 7);
     let mut g = 0;
     while g < n {
-        let a = gate(bytes, g);
+        let a = gate(bytes, g, inputs + g);
         if a.number != 0 {
             return a;
         }

@@ -4,9 +4,6 @@ ghost use Prim.Native.Nat.{_^_, _≤_};
 ghost use Rattle.circuit.specs.Kinds.{kindOf};
 ghost use Rattle.circuit.specs.Plain.{meaningOf};
 
-// The operands that each kind needs.
-const OPERANDS: [u8; 14] = [0, 0, 1, 2, 2, 2, 2, 2, 2, 2, 2, 2, 2, 3];
-
 // The work of each kind.
 const WORK: [u8; 14] = [0, 0, 0, 1, 1, 1, 1, 1, 1, 1, 1, 1, 1, 1];
 
@@ -28,14 +25,23 @@ const TRUTH: [u8; 14] = [
     216, // mux
 ];
 
-// How many operands a gate of this kind needs.
+// How many operands a gate of this kind needs. By comparisons and not by a table, since reading a circuit asks it for each gate.
 pub(crate) fn operands(kind: usize) -> usize
     ensures { λ r. ⌜ r ≡ kindOf kind .operands ⌝ }
 {
-    if 13 < kind {
+    if kind < 2 {
         return 0;
     }
-    OPERANDS[kind] as usize
+    if kind < 3 {
+        return 1;
+    }
+    if kind < 13 {
+        return 2;
+    }
+    if kind < 14 {
+        return 3;
+    }
+    0
 }
 
 // The work of a gate of this kind.

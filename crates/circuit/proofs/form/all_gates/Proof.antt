@@ -1,7 +1,7 @@
 -- `circuit::form::all_gates` meets its contract. The loop's invariant: the first refusal of all gates is the first among those from g on.
 -- Assumes nothing.
 use mathlib.Core.Path.{_≡_, sym, ap, _∙_}
-use Prim.Native.Nat.{_≤_, _-_}
+use Prim.Native.Nat.{ℕ, _-_, _≤_}
 use native.Mathlib.Omega.{arith}
 use lib.Dec.{lit<}
 use denote.Ref.{now}
@@ -12,30 +12,43 @@ use Rattle.circuit.proofs.form.all_gates.Statement.{statement}
 use Rattle.circuit.proofs.form.all_gates.Tie as tie
 
 abbrev Inv-loop : tie.InvT-loop
-Inv-loop bytes n g₀ g = (g ≤ n) × (first (gateAnswer bytes) 0 n ≡ first (gateAnswer bytes) g (n - g))
+Inv-loop bytes inputs n g₀ g = (g ≤ n) × (first (gateAnswer bytes) 0 n ≡ first (gateAnswer bytes) g (n - g))
 
 abbrev μ-loop : tie.MeasureT-loop
-μ-loop bytes n g₀ g = n - g
+μ-loop bytes inputs n g₀ g = n - g
 
 field-requires : tie.Need-field-requires Inv-loop μ-loop
 field-requires c κs = lit< tt
 
+field-requires-2 : tie.Need-field-requires-2 Inv-loop μ-loop
+field-requires-2 c κs = lit< tt
+
 loop-holds : tie.Need-loop-holds Inv-loop μ-loop
 loop-holds c = (omega arith, first-start _ _)
 
+add-gate : tie.Need-add-gate Inv-loop μ-loop
+add-gate c = omega arith
+
 gate-requires : tie.Need-gate-requires Inv-loop μ-loop
-gate-requires c κs = omega arith
+gate-requires c κs =
+    let s = c .before .before .before .before .before in
+    let e = c .before .before .field2 .ensures .0 in
+    let f = c .before .before .before .field .ensures .0 in
+    let t = c .loop-test .taken in
+    let w = s .pre .whole in
+    let m = s .pre .gates-to in
+    (omega (arith, e, t, m), omega (arith, e, t, w), omega (arith, f))
 
 returns : tie.Need-returns Inv-loop μ-loop
 returns c =
-    let b = now (c .before .before .before .before .before .before .before .args .bytes) in
+    let b = now (c .before .before .before .before .before .before .before .before .args .bytes) in
     let g = c .before .before .before .before .loop .g in
-    let n = c .before .before .before .before .before .field .result in
+    let n = c .before .before .before .before .before .field2 .result in
     let e = c .before .before .gate .ensures in
     e
     ∙ sym (first-stop (gateAnswer b) g n (omega arith) (λ z. c .if1 .taken (ap (λ (r : Answer). r .number) e ∙ z)))
     ∙ sym (c .before .before .before .before .loop .inv .1)
-    ∙ ap (first (gateAnswer b) 0) (c .before .before .before .before .before .field .ensures .0)
+    ∙ ap (first (gateAnswer b) 0) (c .before .before .before .before .before .field2 .ensures .0)
 
 add-g : tie.Need-add-g Inv-loop μ-loop
 add-g c = omega arith
@@ -45,18 +58,18 @@ loop-less c = omega arith
 
 loop-again : tie.Need-loop-again Inv-loop μ-loop
 loop-again c =
-    let b = now (c .before .before .before .before .before .before .before .args .bytes) in
+    let b = now (c .before .before .before .before .before .before .before .before .args .bytes) in
     let g = c .before .before .before .before .loop .g in
-    let n = c .before .before .before .before .before .field .result in
+    let n = c .before .before .before .before .before .field2 .result in
     let e = c .before .before .gate .ensures in
     (omega arith, c .before .before .before .before .loop .inv .1 ∙ first-step (gateAnswer b) g n (omega arith) (sym (ap (λ (r : Answer). r .number) e) ∙ c .if1 .left))
 
 returns-2 : tie.Need-returns-2 Inv-loop μ-loop
 returns-2 c =
-    let b = now (c .before .before .before .before .args .bytes) in
+    let b = now (c .before .before .before .before .before .args .bytes) in
     let g = c .before .loop .g in
-    let n = c .before .before .field .result in
-    sym (first-end (gateAnswer b) g n (omega arith)) ∙ sym (c .before .loop .inv .1) ∙ ap (first (gateAnswer b) 0) (c .before .before .field .ensures .0)
+    let n = c .before .before .field2 .result in
+    sym (first-end (gateAnswer b) g n (omega arith)) ∙ sym (c .before .loop .inv .1) ∙ ap (first (gateAnswer b) 0) (c .before .before .field2 .ensures .0)
 
 pub all-gates-spec : {M : Type 1} → statement M
 all-gates-spec =
@@ -65,7 +78,9 @@ all-gates-spec =
     Inv-loop
     μ-loop
     field-requires
+    field-requires-2
     loop-holds
+    add-gate
     gate-requires
     returns
     add-g

@@ -1,6 +1,8 @@
 -- `circuit::form::check` meets its contract: the first of three answers that refuses.
 -- Assumes nothing.
 use mathlib.Core.Path.{_≡_, ap, sym, _∙_}
+use denote.Ref.{now}
+use Rattle.circuit.proofs.Accept.{head-good}
 use borrow.Author.Needs.{needs}
 use Rattle.params.specs.declared.Answer.{Answer}
 use Rattle.params.proofs.Answers.{kept, done}
@@ -18,7 +20,7 @@ returns c =
     e ∙ kept _ _ _ (λ z. c .if1 .taken (ap (λ (r : Answer). r .number) e ∙ z))
 
 all-gates-requires : tie.Need-all-gates-requires
-all-gates-requires c κs = search needs
+all-gates-requires c κs = head-good (now (c .before .before .before .before .args .bytes)) (sym (ap (λ (r : Answer). r .number) (c .before .before .head .ensures)) ∙ c .if1 .left)
 
 returns-2 : tie.Need-returns-2
 unfolding answerOf

@@ -1,13 +1,13 @@
 -- `circuit::form::gate` meets its contract: each return rewrites with the tests that led there.
 -- Assumes nothing.
-use mathlib.Core.Path.{_∙_, sym}
-use native.Mathlib.Omega.{arith}
+use mathlib.Core.Path.{sym, _∙_}
 use Prim.Native.Nat.{_+_}
-use denote.Ref.{now}
+use native.Mathlib.Omega.{arith}
 use borrow.Author.Tests.{le-leb, lt-leb, eq-eqb, ne-eqb}
-use borrow.Author.Needs.{needs}
+use denote.Ref.{now}
 use Rattle.ring.specs.Word.{at}
-use Rattle.circuit.specs.Form.{gateAnswer, gatePlace, kindAt}
+use Rattle.circuit.specs.Form.{gatePlace, kindAt, gateAnswer}
+use borrow.Author.Needs.{needs}
 use Rattle.circuit.proofs.form.gate.Statement.{statement}
 use Rattle.circuit.proofs.form.gate.Tie as tie
 
@@ -20,21 +20,21 @@ add-at c = search needs
 cast-place : tie.Need-cast-place
 cast-place c = search needs
 
-byte-requires : tie.Need-byte-requires
-byte-requires c κs = search needs
+byte-there-requires : tie.Need-byte-there-requires
+byte-there-requires c κs = search needs
 
 returns : tie.Need-returns
 unfolding gateAnswer
 returns c = let a = c .before .before .before .args in simp (lt-leb (kindAt (now (a .bytes)) (a .g)) 13 (omega arith))
 
-add-byte : tie.Need-add-byte
-add-byte c = search needs
+add-byte-there : tie.Need-add-byte-there
+add-byte-there c = search needs
 
-byte-requires-2 : tie.Need-byte-requires-2
-byte-requires-2 c κs = search needs
+byte-there-requires-2 : tie.Need-byte-there-requires-2
+byte-there-requires-2 c κs = search needs
 
-add-t9 : tie.Need-add-t9
-add-t9 c = search needs
+add-t10 : tie.Need-add-t10
+add-t10 c = search needs
 
 returns-2 : tie.Need-returns-2
 unfolding gateAnswer
@@ -54,11 +54,11 @@ gate-spec =
     mul-at
     add-at
     cast-place
-    byte-requires
+    byte-there-requires
     returns
-    add-byte
-    byte-requires-2
-    add-t9
+    add-byte-there
+    byte-there-requires-2
+    add-t10
     returns-2
     gate-operands-requires
     returns-3)

@@ -1,11 +1,42 @@
 -- `circuit::form::gate_operands` meets its contract: each return rewrites with the tests that led there.
 -- Assumes nothing.
-use mathlib.Core.Path.{sym, _∙_}
+use mathlib.Core.Path.{_≡_, sym, ap, _∙_}
+use mathlib.Core.Bool.{Bool}
+use mathlib.Core.List.{List}
+use Prim.Native.Nat.{ℕ, _+_, _*_}
+use native.Mathlib.Omega.{arith}
 use borrow.Author.Tests.{not-true, not-false}
+use lib.Dec.{ltb, eqb}
+use Rattle.params.specs.Refusal.{pick}
+use Rattle.circuit.specs.Kinds.{kindOf}
+use Rattle.circuit.specs.Form.{fieldAt, inputs, gatePlace, kindAt, operandGood, operandsAnswer}
 use borrow.Author.Needs.{needs}
-use Rattle.circuit.specs.Form.{operandsAnswer}
 use Rattle.circuit.proofs.form.gate_operands.Statement.{statement}
 use Rattle.circuit.proofs.form.gate_operands.Tie as tie
+
+-- an operand, from what was read of it
+as-good : (bs : List ℕ) (g x i : ℕ) {needed own wire : ℕ} {r : Bool} → i ≡ gatePlace g + 2 + 2 * x → needed ≡ kindOf (kindAt bs g) .operands → own ≡ inputs bs + g → wire ≡ fieldAt bs i
+    → r ≡ pick (ltb x needed) (ltb wire own) (eqb wire 0) → r ≡ operandGood bs g x
+unfolding operandGood
+as-good bs g x i ei en eo ew e = e ∙ rw (en, eo, ew, ei)
+
+needed : (c : tie.After-operands) → let s = c .before .before in c .operands .result ≡ kindOf (kindAt (s .args .bytes .now) (s .args .g)) .operands
+needed c = c .operands .ensures ∙ ap (λ (n : ℕ). kindOf n .operands) (c .before .before .pre .3)
+
+first : (c : tie.After-operand-good) → let s = c .before .before .before .before in c .operand-good .result ≡ operandGood (s .args .bytes .now) (s .args .g) 0
+first c =
+    let s = c .before .before .before .before in
+    as-good (s .args .bytes .now) (s .args .g) 0 _ (omega arith) (needed (c .before .before)) (s .pre .2) (c .before .field-there .ensures .0) (c .operand-good .ensures)
+
+second : (c : tie.After-operand-good2) → let s = c .before .before .before .before .before .before .before in c .operand-good2 .result ≡ operandGood (s .args .bytes .now) (s .args .g) 1
+second c =
+    let s = c .before .before .before .before .before .before .before in
+    as-good (s .args .bytes .now) (s .args .g) 1 _ (omega arith) (needed (c .before .before .before .before .before)) (s .pre .2) (c .before .field-there2 .ensures .0) (c .operand-good2 .ensures)
+
+third : (c : tie.After-operand-good3) → let s = c .before .before .before .before .before .before .before .before .before .before in c .operand-good3 .result ≡ operandGood (s .args .bytes .now) (s .args .g) 2
+third c =
+    let s = c .before .before .before .before .before .before .before .before .before .before in
+    as-good (s .args .bytes .now) (s .args .g) 2 _ (omega arith) (needed (c .before .before .before .before .before .before .before .before)) (s .pre .2) (c .before .field-there3 .ensures .0) (c .operand-good3 .ensures)
 
 mul-at : tie.Need-mul-at
 mul-at c = search needs
@@ -16,42 +47,60 @@ add-at c = search needs
 cast-place : tie.Need-cast-place
 cast-place c = search needs
 
+operands-requires : tie.Need-operands-requires
+operands-requires c κs = search needs
+
+add-field-there : tie.Need-add-field-there
+add-field-there c = search needs
+
+field-there-requires : tie.Need-field-there-requires
+field-there-requires c κs = search needs
+
 operand-good-requires : tie.Need-operand-good-requires
 operand-good-requires c κs = search needs
 
-add-t8 : tie.Need-add-t8
-add-t8 c = search needs
+add-t12 : tie.Need-add-t12
+add-t12 c = search needs
 
 returns : tie.Need-returns
 unfolding operandsAnswer
-returns c = rw (sym (c .before .operand-good .ensures) ∙ not-true _ (c .if1 .taken))
+returns c = rw (sym (first (c .before)) ∙ not-true _ (c .if1 .taken))
+
+add-field-there-2 : tie.Need-add-field-there-2
+add-field-there-2 c = search needs
+
+field-there-requires-2 : tie.Need-field-there-requires-2
+field-there-requires-2 c κs = search needs
 
 operand-good-requires-2 : tie.Need-operand-good-requires-2
 operand-good-requires-2 c κs = search needs
 
-add-t9 : tie.Need-add-t9
-add-t9 c = search needs
+add-t13 : tie.Need-add-t13
+add-t13 c = search needs
 
 returns-2 : tie.Need-returns-2
 unfolding operandsAnswer
-returns-2 c =
-    rw (sym (c .before .before .before .operand-good .ensures) ∙ not-false _ (c .before .before .if1 .left), sym (c .before .operand-good2 .ensures) ∙ not-true _ (c .if2 .taken))
+returns-2 c = rw (sym (first (c .before .before .before .before)) ∙ not-false _ (c .before .before .before .if1 .left), sym (second (c .before)) ∙ not-true _ (c .if2 .taken))
+
+add-field-there-3 : tie.Need-add-field-there-3
+add-field-there-3 c = search needs
+
+field-there-requires-3 : tie.Need-field-there-requires-3
+field-there-requires-3 c κs = search needs
 
 operand-good-requires-3 : tie.Need-operand-good-requires-3
 operand-good-requires-3 c κs = search needs
 
-add-t10 : tie.Need-add-t10
-add-t10 c = search needs
+add-t14 : tie.Need-add-t14
+add-t14 c = search needs
 
 returns-3 : tie.Need-returns-3
 unfolding operandsAnswer
-returns-3 c =
-    rw (sym (c .before .before .before .before .before .operand-good .ensures) ∙ not-false _ (c .before .before .before .before .if1 .left), sym (c .before .before .before .operand-good2 .ensures) ∙ not-false _ (c .before .before .if2 .left), sym (c .before .operand-good3 .ensures) ∙ not-true _ (c .if3 .taken))
+returns-3 c = rw (sym (first (c .before .before .before .before .before .before .before)) ∙ not-false _ (c .before .before .before .before .before .before .if1 .left), sym (second (c .before .before .before .before)) ∙ not-false _ (c .before .before .before .if2 .left), sym (third (c .before)) ∙ not-true _ (c .if3 .taken))
 
 returns-4 : tie.Need-returns-4
 unfolding operandsAnswer
-returns-4 c =
-    rw (sym (c .before .before .before .before .before .operand-good .ensures) ∙ not-false _ (c .before .before .before .before .if1 .left), sym (c .before .before .before .operand-good2 .ensures) ∙ not-false _ (c .before .before .if2 .left), sym (c .before .operand-good3 .ensures) ∙ not-false _ (c .if3 .left))
+returns-4 c = rw (sym (first (c .before .before .before .before .before .before .before)) ∙ not-false _ (c .before .before .before .before .before .before .if1 .left), sym (second (c .before .before .before .before)) ∙ not-false _ (c .before .before .before .if2 .left), sym (third (c .before)) ∙ not-false _ (c .if3 .left))
 
 pub gate-operands-spec : {M : Type 1} → statement M
 gate-operands-spec =
@@ -60,13 +109,20 @@ gate-operands-spec =
     mul-at
     add-at
     cast-place
+    operands-requires
+    add-field-there
+    field-there-requires
     operand-good-requires
-    add-t8
+    add-t12
     returns
+    add-field-there-2
+    field-there-requires-2
     operand-good-requires-2
-    add-t9
+    add-t13
     returns-2
+    add-field-there-3
+    field-there-requires-3
     operand-good-requires-3
-    add-t10
+    add-t14
     returns-3
     returns-4)
