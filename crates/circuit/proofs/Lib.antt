@@ -1,5 +1,6 @@
 pub mod Table
 pub mod Columns
+pub mod Fits
 pub mod Steps
 pub mod Accept
 pub mod Wires

@@ -158,6 +158,39 @@ fn gate(bytes: &[u8], g: usize, own: usize) -> Answer
     gate_operands(bytes, g, own, kind)
 }
 
+// What an operand has to be below: the gate's own wire where its kind needs it, else 1.
+fn operand_bound(needed: bool, own: usize) -> usize
+    ensures { λ r. ⌜ r ≡ pick needed own 1 ⌝ }
+{
+    if needed { own } else { 1 }
+}
+
+// Whether gate g is not refused: what reading asks of each gate, with no branch on its kind. Kinds from 2 on need one operand, from 3 on two, 13 three.
+fn gate_fits(bytes: &[u8], g: usize, own: usize) -> bool
+    requires { ⌜ (g < 65536) × (19 + 8 * g ≤ length (now bytes)) × (own ≡ inputs (now bytes) + g) ⌝ }
+    ensures { λ r. ⌜ r ≡ eqb (gateAnswer (now (bytes .entry)) g .number) 0 ⌝ }
+{
+    let at = 11 + 8 * g;
+    let kind = byte_there(bytes, at);
+    if 13 < kind {
+        return false;
+    }
+    let blank = byte_there(bytes, at + 1);
+    if blank != 0 {
+        return false;
+    }
+    let x = field_there(bytes, at + 2);
+    if x >= operand_bound(1 < kind, own) {
+        return false;
+    }
+    let y = field_there(bytes, at + 4);
+    if y >= operand_bound(2 < kind, own) {
+        return false;
+    }
+    let z = field_there(bytes, at + 6);
+    z < operand_bound(12 < kind, own)
+}
+
 // Output o.
 fn output(bytes: &[u8], o: usize) -> Answer
     requires { ⌜ o < 65536 ⌝ }
@@ -186,9 +219,9 @@ fn all_gates(bytes: &[u8]) -> Answer
     let n = field(bytes, 7);
     let mut g = 0;
     while g < n {
-        let a = gate(bytes, g, inputs + g);
-        if a.number != 0 {
-            return a;
+        let own = inputs + g;
+        if !gate_fits(bytes, g, own) {
+            return gate(bytes, g, own);
         }
         g += 1;
     }
