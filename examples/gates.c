@@ -22,11 +22,11 @@ static void draw(uint32_t *to, size_t count) {
     if (fread(to, 4, count, source) != count) exit(3);
 }
 
-/* a word of noise: about 2^wide units of 2^-32 */
+/* a word of noise: a sum of 20 uniform numbers, its spread about 2.6 times 2^wide units of 2^-32 */
 static uint32_t noise(uint32_t wide) {
-    uint32_t x[8], sum = 0;
-    draw(x, 8);
-    for (int i = 0; i < 8; i++) sum += (x[i] >> (31 - wide)) - (1u << wide);
+    uint32_t x[20], sum = 0;
+    draw(x, 20);
+    for (int i = 0; i < 20; i++) sum += (x[i] >> (31 - wide)) - (1u << wide);
     return sum;
 }
 

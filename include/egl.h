@@ -6,7 +6,8 @@
  *
  * The answer is one number of 64 bits: the refusal in its low half, 0 when the work is done, and the place in its high half (only refusals
  * 6 to 10, those of circuits, have one). A function that gives a number beside its answer, as a decryption, puts it into the high half instead
- * (EGL_VALUE); it is 0 beside a refusal. Checks go in the order of the numbers:
+ * (EGL_VALUE); it is 0 beside a refusal, but that egl_circuit_work's refusals have their place there. Checks go in the order of the numbers, but that
+ * a circuit under 11 bytes gets 8 before 6 and 7, and the lengths that depend on a circuit (2) come after it:
  *   1  a parameter is outside its range
  *   2  a buffer has not exactly its stated length
  *   3  rotation amount above 2N, extraction index N or more, or a key row's index outside its range
@@ -14,6 +15,8 @@
  *   5  message modulus not 2, 4, 8, 16, 32 or 64
  *   6  circuit: wrong mark      7  circuit: version not 1      8  circuit: length or count
  *   9  circuit: a gate         10  circuit: an output
+ *
+ * No function allocates, keeps a pointer, or needs more than 64 KB of stack (the deepest, a circuit on ciphertexts, takes 55,920 bytes).
  *
  * Parameters: n 1..1,100; nbit 1..10, N = 2^nbit; bgbit 1..24, l at least 1, l * bgbit at most 32; basebit 1..6, t at least 1,
  * basebit * t at most 30. A word (uint32_t) counts 2^-32 of a turn.
@@ -145,7 +148,8 @@ egl_answer egl_key_gen_key_switching_key(EGL_PARAMS, const uint32_t *key_lv0, si
 /* What a lookup of row (i, j, k) in a switching key of so many words is answered. Refusals 1, 2, 3. */
 egl_answer egl_key_switching_row_answer(EGL_PARAMS, size_t words, size_t i, size_t j, size_t k);
 
-/* The place of that row among the rows: its first word stands at (n + 1) times this. */
+/* The place of that row among the rows, modulo 2^32: its first word stands at (n + 1) times this. A number for any indices at all; whether there is
+ * such a row egl_key_switching_row_answer tells. */
 uint32_t egl_key_row_index(EGL_PARAMS, uint32_t i, uint32_t j, uint32_t k);
 
 /* One bit's part of the bootstrapping key: 2l rows of 2N words, encryptions of zero with m times the gadget added. masks and noise have 2l * N words,

@@ -39,7 +39,7 @@ pub enum Gate {
 }
 
 impl Gate {
-    /// Every gate, the two constants apart.
+    /// Every gate, each constant counted as one.
     pub const ALL: [Gate; 16] = [
         Gate::Nand,
         Gate::Or,

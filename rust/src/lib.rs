@@ -7,7 +7,8 @@
 //!
 //! Two ways to call:
 //!
-//! * everything lent: [`lent`] for encryption, decryption and generation of keys, [`CloudKey`] for gates. Nothing is allocated or drawn.
+//! * everything lent: [`lent`] for encryption, decryption and generation of keys, [`CloudKey`] for gates. Nothing is drawn, and nothing allocated but
+//!   by [`CloudKey::evaluate`], which makes the place of its result.
 //! * drawn and owned: [`SecretKeys`] and [`OwnedCloudKey`] draw keys, masks and noise from a source that the caller gives.
 //!
 //! ```no_run

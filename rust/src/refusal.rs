@@ -3,7 +3,8 @@
 use std::error::Error;
 use std::fmt;
 
-/// Why a call did not do its work. Checks go in the order of the numbers, and a refused call has written to nothing that was lent to it.
+/// Why a call did not do its work. Checks go in the order of the numbers (but that a circuit under 11 bytes gets 8 first, and lengths that depend
+/// on a circuit come after it), and a refused call has written to nothing that was lent to it.
 #[derive(Debug, Clone, Copy, PartialEq, Eq, Hash)]
 #[non_exhaustive]
 pub enum Refusal {

@@ -1,4 +1,4 @@
-// The fields of a circuit's bytes. Each is total: past the end of the bytes stands 0.
+// The fields of a circuit's bytes. Past the end of the bytes stands 0, so that they are total; `byte_there` and `field_there` are for places that there are.
 use crate::Shape;
 ghost use mathlib.Core.Path.{_≡_};
 ghost use Prim.Native.Nat.{_+_, _<_};

@@ -165,7 +165,7 @@ fn operand_bound(needed: bool, own: usize) -> usize
     if needed { own } else { 1 }
 }
 
-// Whether gate g is not refused: what reading asks of each gate, with no branch on its kind. Kinds from 2 on need one operand, from 3 on two, 13 three.
+// Whether gate g is not refused: what reading asks of each gate, by the same tests for every kind. Kinds from 2 on need one operand, from 3 on two, 13 three.
 fn gate_fits(bytes: &[u8], g: usize, own: usize) -> bool
     requires { ⌜ (g < 65536) × (19 + 8 * g ≤ length (now bytes)) × (own ≡ inputs (now bytes) + g) ⌝ }
     ensures { λ r. ⌜ r ≡ eqb (gateAnswer (now (bytes .entry)) g .number) 0 ⌝ }

@@ -1,4 +1,4 @@
-// The kinds of gates, as tables: what specs/Kinds.antt gives of each.
+// What specs/Kinds.antt gives of each kind of gates.
 ghost use mathlib.Core.Path.{_≡_};
 ghost use Prim.Native.Nat.{_^_, _≤_};
 ghost use Rattle.circuit.specs.Kinds.{kindOf};
@@ -25,7 +25,7 @@ const TRUTH: [u8; 14] = [
     216, // mux
 ];
 
-// How many operands a gate of this kind needs. By comparisons and not by a table, since reading a circuit asks it for each gate.
+// How many operands a gate of this kind needs.
 pub(crate) fn operands(kind: usize) -> usize
     ensures { λ r. ⌜ r ≡ kindOf kind .operands ⌝ }
 {

@@ -28,7 +28,7 @@ pub(crate) fn pack(a: Answer) -> u64
     (a.number as u64) + (a.place as u64) * 0x1_0000_0000
 }
 
-// The answer and a number beside it: the number stands in the high half, since the place of such an answer is always 0.
+// An answer that has no place and a number beside it: the number stands in the high half.
 pub(crate) fn pack_with(a: Answer, value: u32) -> u64
     ensures { λ r. ⌜ r ≡ packedWith a value ⌝ }
 {

@@ -1,25 +1,34 @@
 -- What callers use of an encrypted run: that good arguments are not refused, what the slices then hold, each wire's ciphertext in the finished list, and that
 -- the gates done one by one make the run. What stands before a gate is kept by the gates after it.
 -- Assumes nothing.
-use mathlib.Core.Path.{_≡_, sym, ap, _∙_}
+use mathlib.Core.Path.{_≡_, refl, sym, ap, _∙_}
+use mathlib.Core.Bool.{Bool}
+use mathlib.Core.Logic.{⊎-elim}
 use mathlib.Core.List.{List, _++_}
 use Prim.Native.Nat.{ℕ, zero, suc, _+_, _*_, _-_, _≤_, _<_}
-use native.Mathlib.Nat.{add-zero, add-suc}
+use native.Mathlib.Nat.{add-zero, add-suc, mul-le-mul-right, eq-zero-or-pos}
 use native.Mathlib.Numerals.{add-one}
 use native.Mathlib.Omega.{arith}
-use lib.ListN.{length, take, drop, length-drop}
+use borrow.Author.Tests.{lt-ltb}
+use lib.Dec.{lit<}
+use lib.ListN.{length, take, drop, length-append, length-drop}
 use lib.Seq.{drop-at, drop-append-le, take-append-le, take-all}
 use Rattle.params.specs.declared.Params.{Params}
 use Rattle.params.specs.declared.Answer.{Answer}
+use Rattle.params.specs.Refusal.{pick}
 use Rattle.params.proofs.Answers.{when-done}
 use Rattle.key.proofs.Joins.{joined-part}
-use Rattle.circuit.specs.Form.{inputs, gates, outputs, wires, outputAt}
+use Rattle.circuit.specs.Kinds.{kindOf}
+use Rattle.circuit.specs.Form.{inputs, gates, outputs, wires, kindAt, operandAt, outputAt}
 use Rattle.circuit.specs.Valid.{Valid}
-use Rattle.encrypted_run.specs.Refusals.{RunGood, Within}
-use Rattle.encrypted_run.specs.Run.{cipherAt, gateCipher, ciphersTo, ciphersOf, outputCiphers, wiresAfter, outputsAfter, stepped}
+use Rattle.circuit.proofs.Accept.{lt-or-ge}
+use Rattle.encrypted_run.specs.Ways.{ran}
+use Rattle.encrypted_run.specs.Refusals.{StepGood, RunGood, Within}
+use Rattle.encrypted_run.specs.Run.{cipherAt, gateCipher, ciphersTo, ciphersOf, outputCiphers, wiresAfter, outputsAfter, stepped, stepAfter}
 use Rattle.encrypted_run.proofs.Ciphers.{cipher-length, wire-within}
-use Rattle.encrypted_run.proofs.Checks.{run-done}
-use Rattle.encrypted_run.proofs.Wires.{gate-length, ciphers-length, ciphers-more, run-none, run-more, run-end}
+use Rattle.encrypted_run.proofs.Checks.{step-done, run-done}
+use Rattle.encrypted_run.proofs.Operands.{known-way, needs-first}
+use Rattle.encrypted_run.proofs.Wires.{gate-length, ciphers-length, ciphers-more, held-length, run-none, run-more, run-end}
 
 -- ---- a run that is not refused
 
@@ -88,6 +97,41 @@ module _ (p : Params) (ksk bsk bs ins : List ℕ) (li : length ins ≡ inputs bs
   pub operand-wire : (g w : ℕ) → g < gates bs → w < inputs bs + g → cipherAt p (ciphersTo p ksk bsk bs ins g) w ≡ cipherAt p (ciphersOf p ksk bsk bs ins) w
   operand-wire g w a h = sym (kept-to g w (omega arith) h)
 
+  module _ (v : Valid bs) (g : ℕ) (h : g < gates bs) where
+    -- an operand, needed or 0, is below the gate's own wire as soon as there is a wire before it
+    operand-before : (x : ℕ) → x < 3 → 0 < inputs bs + g → operandAt bs g x < inputs bs + g
+    operand-before x l w =
+        ⊎-elim
+        (λ (n : x < kindOf (kindAt bs g) .operands). v .every-gate g h .needed x l n)
+        (λ (n : kindOf (kindAt bs g) .operands ≤ x). let z = v .every-gate g h .others x l n in omega (arith, z, w))
+        (lt-or-ge x (kindOf (kindAt bs g) .operands))
+
+    -- with no wire before it the gate needs no operand, so it is a constant
+    constant : inputs bs + g ≡ 0 → kindAt bs g < 2
+    constant e =
+        ⊎-elim
+        (λ (n : kindAt bs g < 2). n)
+        (λ (n : 2 ≤ kindAt bs g). absurd (let b = v .every-gate g h .needed 0 (lit< tt) (needs-first (kindAt bs g) n (v .every-gate g h .kind-to)) in let q : ⊥ = omega (arith, b, e) in q))
+        (lt-or-ge (kindAt bs g) 2)
+
+    -- the gate on the wires before it is the gate on the finished wires
+    settled : gateCipher p ksk bsk bs (ciphersTo p ksk bsk bs ins g) g ≡ gateCipher p ksk bsk bs (ciphersOf p ksk bsk bs ins) g
+    unfolding gateCipher ran
+    settled =
+        ⊎-elim
+        (λ (e : inputs bs + g ≡ 0). rw (known-way (kindAt bs g) (constant e)))
+        (λ (w : 0 < inputs bs + g).
+        rw (
+          operand-wire g (operandAt bs g 0) h (operand-before 0 (lit< tt) w),
+          operand-wire g (operandAt bs g 1) h (operand-before 1 (lit< tt) w),
+          operand-wire g (operandAt bs g 2) h (operand-before 2 (lit< tt) w),
+        ))
+        (eq-zero-or-pos (inputs bs + g))
+
+    -- each gate's wire has the gate's ciphertext on its operands' wires, all of them read in the finished list
+    pub gate-on-wires : cipherAt p (ciphersOf p ksk bsk bs ins) (inputs bs + g) ≡ gateCipher p ksk bsk bs (ciphersOf p ksk bsk bs ins) g
+    gate-on-wires = gate-wire g h ∙ settled
+
   -- an output has its wire's ciphertext
   pub output-wire : Valid bs → (o : ℕ) → o < outputs bs → cipherAt p (outputCiphers p bs (ciphersOf p ksk bsk bs ins)) o ≡ cipherAt p (ciphersOf p ksk bsk bs ins) (outputAt bs o)
   unfolding outputCiphers cipherAt
@@ -106,17 +150,48 @@ module _ (p : Params) (ksk bsk bs ins : List ℕ) (li : length ins ≡ inputs bs
 
 -- ---- the gates one by one
 
--- the gates 0 .. n - 1 done one after the other on the wires' slice, as calls of `run_gate` do
-unfoldable pub steps : Params → List ℕ → List ℕ → List ℕ → ℕ → List ℕ → List ℕ
-steps p ksk bsk bs zero ws = ws
-steps p ksk bsk bs (suc n) ws = stepped p ksk bsk bs n (steps p ksk bsk bs n ws)
+-- the wires' slice after calls of `run_gate` for the gates 0 .. n - 1
+unfoldable pub called : Params → List ℕ → List ℕ → List ℕ → ℕ → List ℕ → List ℕ
+called p ksk bsk bs zero ws = ws
+called p ksk bsk bs (suc n) ws = stepAfter p ksk bsk bs n (called p ksk bsk bs n ws)
 
-module _ (p : Params) (ksk bsk bs ws : List ℕ) (h : inputs bs * (p .n + 1) ≤ length ws) where
-  steps-are : (n : ℕ) → steps p ksk bsk bs n ws ≡ ciphersTo p ksk bsk bs (take (inputs bs * (p .n + 1)) ws) n ++ drop ((inputs bs + n) * (p .n + 1)) ws
-  unfolding steps
-  steps-are zero = run-none p ksk bsk bs ws h
-  steps-are (suc n) = run-more p ksk bsk bs ws h n (steps-are n) ∙ ap (λ (k : ℕ). ciphersTo p ksk bsk bs (take (inputs bs * (p .n + 1)) ws) k ++ drop ((inputs bs + k) * (p .n + 1)) ws) (add-one n)
+module _ (p : Params) (ksk bsk bs ws : List ℕ) (good : StepGood p (length ksk) (length bsk) bs (length ws)) where
+  -- the slice as it is then
+  abbrev so-far : ℕ → List ℕ
+  so-far n = ciphersTo p ksk bsk bs (take (inputs bs * (p .n + 1)) ws) n ++ drop ((inputs bs + n) * (p .n + 1)) ws
+
+  fits : (n : ℕ) → n ≤ gates bs → (inputs bs + n) * (p .n + 1) ≤ length ws
+  fits n h =
+      let l : inputs bs + n ≤ wires bs = omega (arith, h) in
+      let m = mul-le-mul-right (p .n + 1) l in
+      let e = good .wires-length in
+      omega (arith, m, e)
+
+  inputs-fit : inputs bs * (p .n + 1) ≤ length ws
+  inputs-fit = rw (add-zero (inputs bs)) at (fits 0 (omega arith))
+
+  same-length : (n : ℕ) → n ≤ gates bs → length (so-far n) ≡ length ws
+  same-length n h =
+      let e = length-append (ciphersTo p ksk bsk bs (take (inputs bs * (p .n + 1)) ws) n) (drop ((inputs bs + n) * (p .n + 1)) ws) in
+      let l = held-length p ksk bsk bs ws inputs-fit n in
+      let d = length-drop ((inputs bs + n) * (p .n + 1)) ws in
+      let f = fits n h in
+      omega (arith, e, l, d, f)
+
+  -- no call is refused, and each does its gate
+  called-are : (n : ℕ) → n ≤ gates bs → called p ksk bsk bs n ws ≡ so-far n
+  unfolding called stepAfter
+  called-are zero h = run-none p ksk bsk bs ws inputs-fit
+  called-are (suc n) h =
+      let l : n < gates bs = omega (arith, h) in
+      let k : n ≤ gates bs = omega (arith, h) in
+      let done = step-done p (length ksk) (length bsk) bs (length (so-far n)) (record { keys = good .keys; valid = good .valid; wires-length = same-length n k ∙ good .wires-length }) in
+      ap (stepAfter p ksk bsk bs n) (called-are n k)
+      ∙ when-done _ _ _ (ap (λ (a : Answer). a .number) done)
+      ∙ ap (λ (b : Bool). pick b (stepped p ksk bsk bs n (so-far n)) (so-far n)) (lt-ltb n (gates bs) l)
+      ∙ run-more p ksk bsk bs ws inputs-fit n refl
+      ∙ ap (λ (m : ℕ). ciphersTo p ksk bsk bs (take (inputs bs * (p .n + 1)) ws) m ++ drop ((inputs bs + m) * (p .n + 1)) ws) (add-one n)
 
   -- all of them make the run's wires
-  pub steps-run : length ws ≡ wires bs * (p .n + 1) → steps p ksk bsk bs (gates bs) ws ≡ ciphersOf p ksk bsk bs (take (inputs bs * (p .n + 1)) ws)
-  steps-run l = run-end p ksk bsk bs ws h (gates bs) (omega arith) (omega arith) l (steps-are (gates bs))
+  pub steps-run : called p ksk bsk bs (gates bs) ws ≡ ciphersOf p ksk bsk bs (take (inputs bs * (p .n + 1)) ws)
+  steps-run = run-end p ksk bsk bs ws inputs-fit (gates bs) (omega arith) (omega arith) (good .wires-length) (called-are (gates bs) (omega arith))

@@ -99,9 +99,12 @@ fn run_answer(
 ) -> Answer
     ensures { λ r. ⌜ r ≡ encryptedAnswer p lk ls (now (bytes .entry)) li lw lo ⌝ }
 {
-    let number = keys_number(p, lk, ls);
-    if number != 0 {
-        return Answer { number, place: 0 };
+    let first = keys_number(p, lk, ls);
+    if first != 0 {
+        return Answer {
+            number: first,
+            place: 0,
+        };
     }
     let answer = circuit::check(bytes);
     if answer.number != 0 {
@@ -148,7 +151,7 @@ pub fn run_encrypted(
     ensures held { λ r. ⌜ now (wires .exit) ≡ wiresAfter p (now (ksk .entry)) (now (bsk .entry)) (now (bytes .entry)) (now (ins .entry)) (now (wires .entry)) (now (out .entry)) ⌝ }
     ensures written { λ r. ⌜ now (out .exit) ≡ outputsAfter p (now (ksk .entry)) (now (bsk .entry)) (now (bytes .entry)) (now (ins .entry)) (now (wires .entry)) (now (out .entry)) ⌝ }
 {
-    let answer = run_answer(
+    let said = run_answer(
         p,
         ksk.len(),
         bsk.len(),
@@ -157,8 +160,8 @@ pub fn run_encrypted(
         wires.len(),
         out.len(),
     );
-    if answer.number == 0 {
+    if said.number == 0 {
         steps::run_into(p, ksk, bsk, bytes, ins, wires, out);
     }
-    answer
+    said
 }
