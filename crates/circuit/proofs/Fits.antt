@@ -2,7 +2,7 @@
 -- table, and an operand that is not needed is below 1.
 -- Assumes nothing.
 use mathlib.Core.Path.{_≡_, refl, sym, ap, ap₂, _∙_}
-use mathlib.Core.Bool.{Bool, true, false, not}
+use mathlib.Core.Bool.{Bool, true, false}
 use mathlib.Core.List.{List}
 use Prim.Native.Nat.{ℕ, zero, suc, _+_, _*_, _≤_}
 use native.Mathlib.Omega.{arith}
@@ -12,22 +12,10 @@ use lib.ListN.{getD}
 use Rattle.params.specs.Refusal.{pick, answer}
 use Rattle.circuit.specs.Kinds.{kindOf}
 use Rattle.circuit.specs.Form.{fieldAt, inputs, gatePlace, kindAt, operandAt, checkAt, operandGood}
-use Rattle.circuit.proofs.Table.{both, both-left, both-right, entry}
+use Rattle.circuit.proofs.Table.{same, same-is, entry}
 use Rattle.circuit.proofs.Columns.{operandTable, operand-entry}
 
 -- ---- the table
-
--- two bits are one
-same : Bool → Bool → Bool
-same true b = b
-same false b = not b
-
-same-is : (a b : Bool) → T (same a b) → a ≡ b
-unfolding same
-same-is true true t = refl
-same-is true false t = absurd t
-same-is false true t = absurd t
-same-is false false t = refl
 
 -- more than x operands are needed by the kinds above t
 above : ℕ → ℕ → ℕ → ℕ → Bool
@@ -38,15 +26,15 @@ unfolding above
 above-is x t k test h = ap (ltb x) (sym (operand-entry k h .0)) ∙ same-is (ltb x (getD operandTable k 0)) (ltb t k) test
 
 pub first-needed : (k : ℕ) → k ≤ 13 → ltb 0 (kindOf k .operands) ≡ ltb 1 k
-unfolding above same
+unfolding above
 first-needed k h = above-is 0 1 k (entry (above 0 1) operandTable tt k (omega arith)) h
 
 pub second-needed : (k : ℕ) → k ≤ 13 → ltb 1 (kindOf k .operands) ≡ ltb 2 k
-unfolding above same
+unfolding above
 second-needed k h = above-is 1 2 k (entry (above 1 2) operandTable tt k (omega arith)) h
 
 pub third-needed : (k : ℕ) → k ≤ 13 → ltb 2 (kindOf k .operands) ≡ ltb 12 k
-unfolding above same
+unfolding above
 third-needed k h = above-is 2 12 k (entry (above 2 12) operandTable tt k (omega arith)) h
 
 -- ---- an operand

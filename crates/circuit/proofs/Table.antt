@@ -1,7 +1,7 @@
 -- A rule that holds at every entry of a table: one test over the whole table, which antt computes, is turned into the rule at each place.
 -- Assumes nothing.
-use mathlib.Core.Path.{_≡_, _∙_, subst, sym}
-use mathlib.Core.Bool.{Bool, true, false}
+use mathlib.Core.Path.{_≡_, refl, _∙_, subst, sym}
+use mathlib.Core.Bool.{Bool, true, false, not}
 use mathlib.Core.List.{List, [], _∷_}
 use Prim.Native.Nat.{ℕ, zero, suc, _+_, _<_}
 use native.Mathlib.Nat.{add-zero, zero-add, add-suc, suc-add, le-of-suc-le-suc, not-suc-le-zero}
@@ -19,6 +19,17 @@ both-left false b t = t
 pub both-right : (a b : Bool) → T (both a b) → T b
 both-right true b t = t
 both-right false b t = absurd t
+
+-- two bits are one
+abbrev pub same : Bool → Bool → Bool
+same true b = b
+same false b = not b
+
+pub same-is : (a b : Bool) → T (same a b) → a ≡ b
+same-is true true t = refl
+same-is true false t = absurd t
+same-is false true t = absurd t
+same-is false false t = refl
 
 -- the test f passes at each entry and its place, counted from i
 abbrev pub every : (ℕ → ℕ → Bool) → ℕ → List ℕ → Bool

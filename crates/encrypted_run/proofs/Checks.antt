@@ -13,10 +13,10 @@ use Rattle.params.specs.Sizes.{bitWords, switchingRows}
 use Rattle.params.proofs.Answers.{passed, when-done}
 use Rattle.circuit.specs.Form.{inputs, outputs, wires, answerOf, orElse}
 use Rattle.circuit.proofs.Accept.{accepted, not-refused, both-done}
-use Rattle.encrypted_run.specs.Refusals.{keysNumber, wiresNumber, ciphersNumber, encryptedAnswer, stepAnswer, KeysGood, StepGood, RunGood}
+use Rattle.encrypted_run.specs.Refusals.{materialNumber, wiresNumber, ciphersNumber, encryptedAnswer, stepAnswer, KeysGood, StepGood, RunGood}
 
-pub keys-good : (p : Params) (lk ls : ℕ) → keysNumber p lk ls ≡ 0 → KeysGood p lk ls
-unfolding keysNumber
+pub keys-good : (p : Params) (lk ls : ℕ) → materialNumber p lk ls ≡ 0 → KeysGood p lk ls
+unfolding materialNumber
 keys-good p lk ls e =
     let s1 = passed _ 1 _ (lit< tt) e in
     let s2 = passed _ 2 _ (lit< tt) (s1 .1) in
@@ -27,8 +27,8 @@ keys-good p lk ls e =
       bootstrapping = eqb-true _ _ (s3 .0);
     }
 
-keys-done : (p : Params) (lk ls : ℕ) → KeysGood p lk ls → keysNumber p lk ls ≡ 0
-unfolding keysNumber
+keys-done : (p : Params) (lk ls : ℕ) → KeysGood p lk ls → materialNumber p lk ls ≡ 0
+unfolding materialNumber
 keys-done p lk ls k =
     simp (
       eq-eqb (paramsNumber p) 0 (k .good),
@@ -44,7 +44,7 @@ module _ (p : Params) (lk ls : ℕ) (bs : List ℕ) where
   pub step-good : (lw : ℕ) → stepAnswer p lk ls bs lw .number ≡ 0 → StepGood p lk ls bs lw
   unfolding stepAnswer
   step-good lw e =
-      let s1 = both-done (answer (keysNumber p lk ls)) (orElse (answerOf bs) (answer (wiresNumber p bs lw))) e in
+      let s1 = both-done (answer (materialNumber p lk ls)) (orElse (answerOf bs) (answer (wiresNumber p bs lw))) e in
       let s2 = both-done (answerOf bs) (answer (wiresNumber p bs lw)) (s1 .1) in
       record {
         keys = keys-good p lk ls (s1 .0);
@@ -55,7 +55,7 @@ module _ (p : Params) (lk ls : ℕ) (bs : List ℕ) where
   pub run-good : (li lw lo : ℕ) → encryptedAnswer p lk ls bs li lw lo .number ≡ 0 → RunGood p lk ls bs li lw lo
   unfolding encryptedAnswer ciphersNumber
   run-good li lw lo e =
-      let s1 = both-done (answer (keysNumber p lk ls)) (orElse (answerOf bs) (answer (ciphersNumber p bs li lw lo))) e in
+      let s1 = both-done (answer (materialNumber p lk ls)) (orElse (answerOf bs) (answer (ciphersNumber p bs li lw lo))) e in
       let s2 = both-done (answerOf bs) (answer (ciphersNumber p bs li lw lo)) (s1 .1) in
       let s3 = passed _ 2 _ (lit< tt) (s2 .1) in
       let s4 = passed _ 2 _ (lit< tt) (s3 .1) in
@@ -69,14 +69,14 @@ module _ (p : Params) (lk ls : ℕ) (bs : List ℕ) where
   pub step-done : (lw : ℕ) → StepGood p lk ls bs lw → stepAnswer p lk ls bs lw ≡ answer 0
   unfolding stepAnswer wiresNumber
   step-done lw g =
-      when-done (keysNumber p lk ls) _ _ (keys-done p lk ls (g .keys))
+      when-done (materialNumber p lk ls) _ _ (keys-done p lk ls (g .keys))
       ∙ when-done (answerOf bs .number) _ _ (ap (λ (a : Answer). a .number) (not-refused bs (g .valid)))
       ∙ rw (eq-eqb lw (wires bs * (p .n + 1)) (g .wires-length))
 
   pub run-done : (li lw lo : ℕ) → RunGood p lk ls bs li lw lo → encryptedAnswer p lk ls bs li lw lo ≡ answer 0
   unfolding encryptedAnswer ciphersNumber wiresNumber
   run-done li lw lo g =
-      when-done (keysNumber p lk ls) _ _ (keys-done p lk ls (g .step .keys))
+      when-done (materialNumber p lk ls) _ _ (keys-done p lk ls (g .step .keys))
       ∙ when-done (answerOf bs .number) _ _ (ap (λ (a : Answer). a .number) (not-refused bs (g .step .valid)))
       ∙ rw (
         eq-eqb li (inputs bs * (p .n + 1)) (g .ins-length),

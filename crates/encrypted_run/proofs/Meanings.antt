@@ -1,27 +1,15 @@
 -- Every way means what its kind means: all kinds and all bits are tested at once, and the test is read off at each.
 -- Assumes nothing.
-use mathlib.Core.Path.{_≡_, refl}
-use mathlib.Core.Bool.{Bool, true, false, not, xor}
+use mathlib.Core.Path.{_≡_}
+use mathlib.Core.Bool.{Bool, true, false, xor}
 use mathlib.Core.List.{[], _∷_}
 use Prim.Native.Nat.{ℕ, _≤_}
 use native.Mathlib.Omega.{arith}
 use lib.Dec.{T}
 use Rattle.gates.specs.Kind.{meaning}
 use Rattle.circuit.specs.Kinds.{kinds, kindOf}
-use Rattle.circuit.proofs.Table.{both, both-left, both-right, entry}
+use Rattle.circuit.proofs.Table.{both, both-left, both-right, same, same-is, entry}
 use Rattle.encrypted_run.specs.Ways.{ways, wayOf, meant}
-
--- two bits are one
-same : Bool → Bool → Bool
-same true b = b
-same false b = not b
-
-same-is : (a b : Bool) → T (same a b) → a ≡ b
-unfolding same
-same-is true true t = refl
-same-is true false t = absurd t
-same-is false true t = absurd t
-same-is false false t = refl
 
 -- one kind, on these bits
 at-bits : ℕ → Bool → Bool → Bool → Bool
@@ -53,7 +41,7 @@ pick-a k true t = both-left (on-b k true) (on-b k false) t
 pick-a k false t = both-right (on-b k true) (on-b k false) t
 
 every-kind : (k : ℕ) → k ≤ 13 → T (on-a k)
-unfolding on-a on-b on-c at-bits same meant wayOf ways kindOf kinds xor
+unfolding on-a on-b on-c at-bits meant wayOf ways kindOf kinds xor
 every-kind k h = entry (λ j x. on-a j) (0 ∷ 0 ∷ 0 ∷ 0 ∷ 0 ∷ 0 ∷ 0 ∷ 0 ∷ 0 ∷ 0 ∷ 0 ∷ 0 ∷ 0 ∷ 0 ∷ []) tt k (omega arith)
 
 pub ways-mean : (k : ℕ) (a b c : Bool) → k ≤ 13 → meant (wayOf k) a b c ≡ kindOf k .meaning a b c

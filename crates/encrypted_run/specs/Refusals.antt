@@ -13,8 +13,8 @@ use Rattle.circuit.specs.Form.{inputs, outputs, wires, answerOf, orElse}
 use Rattle.circuit.specs.Valid.{Valid}
 
 -- The parameters, then the words of the switching key and of the bootstrapping key.
-unfoldable pub keysNumber : Params → ℕ → ℕ → ℕ
-keysNumber p lk ls =
+unfoldable pub materialNumber : Params → ℕ → ℕ → ℕ
+materialNumber p lk ls =
     check (eqb (paramsNumber p) 0) 1
     (check (eqb lk (switchingRows p * (p .n + 1))) 2
     (check (eqb ls (p .n * bitWords p)) 2
@@ -33,11 +33,11 @@ ciphersNumber p bs li lw lo =
 
 -- The answer of an encrypted run.
 unfoldable pub encryptedAnswer : Params → ℕ → ℕ → List ℕ → ℕ → ℕ → ℕ → Answer
-encryptedAnswer p lk ls bs li lw lo = orElse (answer (keysNumber p lk ls)) (orElse (answerOf bs) (answer (ciphersNumber p bs li lw lo)))
+encryptedAnswer p lk ls bs li lw lo = orElse (answer (materialNumber p lk ls)) (orElse (answerOf bs) (answer (ciphersNumber p bs li lw lo)))
 
 -- The answer of one gate of a run.
 unfoldable pub stepAnswer : Params → ℕ → ℕ → List ℕ → ℕ → Answer
-stepAnswer p lk ls bs lw = orElse (answer (keysNumber p lk ls)) (orElse (answerOf bs) (answer (wiresNumber p bs lw)))
+stepAnswer p lk ls bs lw = orElse (answer (materialNumber p lk ls)) (orElse (answerOf bs) (answer (wiresNumber p bs lw)))
 
 -- ---- what holds where nothing is refused
 

@@ -5,7 +5,7 @@ ghost use Prim.Native.Nat.{_+_, _*_, _≤_};
 ghost use lib.ListN.{length};
 ghost use Rattle.params.specs.Ranges.{paramsNumber};
 ghost use Rattle.circuit.specs.Valid.{Valid};
-ghost use Rattle.encrypted_run.specs.Refusals.{keysNumber, wiresNumber, ciphersNumber, encryptedAnswer, stepAnswer};
+ghost use Rattle.encrypted_run.specs.Refusals.{materialNumber, wiresNumber, ciphersNumber, encryptedAnswer, stepAnswer};
 ghost use Rattle.encrypted_run.specs.Run.{wiresAfter, outputsAfter, stepAfter};
 use params::Answer;
 use params::Params;
@@ -16,7 +16,7 @@ mod ways;
 
 // The refusal of the parameters and of both keys' lengths, or 0.
 fn keys_number(p: Params, lk: usize, ls: usize) -> u32
-    ensures { λ r. ⌜ r ≡ keysNumber p lk ls ⌝ }
+    ensures { λ r. ⌜ r ≡ materialNumber p lk ls ⌝ }
 {
     let s = params::sizes_of(p);
     if s.number != 0 {

@@ -4,7 +4,7 @@ use mathlib.Core.Path.{_≡_, ap}
 use Rattle.params.specs.declared.Sizes.{Sizes}
 use Rattle.params.specs.Sizes.{sizesIn}
 use Rattle.gates.proofs.Checks.{lengths-in, on-params, out-params, fits, unfit}
-use Rattle.encrypted_run.specs.Refusals.{keysNumber}
+use Rattle.encrypted_run.specs.Refusals.{materialNumber}
 use borrow.Author.Needs.{needs}
 use Rattle.encrypted_run.proofs.keys_number.Statement.{statement}
 use Rattle.encrypted_run.proofs.keys_number.Tie as tie
@@ -17,11 +17,11 @@ sizes-of-requires : tie.Need-sizes-of-requires
 sizes-of-requires c κs = search needs
 
 returns : tie.Need-returns
-unfolding keysNumber
+unfolding materialNumber
 returns c = simp (out-params _ (c .before .before .sizes-of .ensures) (c .if1 .taken))
 
 returns-2 : tie.Need-returns-2
-unfolding keysNumber
+unfolding materialNumber
 returns-2 c =
     let d = c .before .before in
     simp (
@@ -30,7 +30,7 @@ returns-2 c =
     )
 
 returns-3 : tie.Need-returns-3
-unfolding keysNumber
+unfolding materialNumber
 returns-3 c =
     let d = c .before .before .before .before in
     simp (
@@ -40,7 +40,7 @@ returns-3 c =
     )
 
 returns-4 : tie.Need-returns-4
-unfolding keysNumber
+unfolding materialNumber
 returns-4 c =
     let d = c .before .before .before .before in
     simp (

@@ -5,7 +5,7 @@ use Rattle.params.specs.declared.Answer.{Answer}
 use Rattle.params.specs.Refusal.{answer}
 use Rattle.params.proofs.Answers.{kept, done}
 use Rattle.circuit.proofs.Accept.{accepted}
-use Rattle.encrypted_run.specs.Refusals.{keysNumber, encryptedAnswer}
+use Rattle.encrypted_run.specs.Refusals.{materialNumber, encryptedAnswer}
 use Rattle.encrypted_run.proofs.Checks.{keys-good}
 use borrow.Author.Needs.{needs}
 use Rattle.encrypted_run.proofs.run_answer.Statement.{statement}
@@ -16,7 +16,7 @@ keys-number-requires c κs = search needs
 
 returns : tie.Need-returns
 unfolding encryptedAnswer
-returns c = ap answer (c .before .keys-number .ensures) ∙ kept (let g = c .before .before .before .args in keysNumber (g .p) (g .lk) (g .ls)) _ _ (λ z. c .if1 .taken (c .before .keys-number .ensures ∙ z))
+returns c = ap answer (c .before .keys-number .ensures) ∙ kept (let g = c .before .before .before .args in materialNumber (g .p) (g .lk) (g .ls)) _ _ (λ z. c .if1 .taken (c .before .keys-number .ensures ∙ z))
 
 check-requires : tie.Need-check-requires
 check-requires c κs = search needs
