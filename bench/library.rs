@@ -10,6 +10,7 @@ macro_rules! declare {
 
 type In = *const u32;
 type Out = *mut u32;
+type Bytes = *const u8;
 
 declare! {
     #[cfg(group_product)]
@@ -28,6 +29,10 @@ declare! {
     fn egl_trgsw_blind_rotate(src: In, src_len: usize, key: In, key_len: usize, x: Out, x_len: usize, y: Out, y_len: usize);
     #[cfg(group_gates)]
     fn egl_gates_nand(a: In, a_len: usize, b: In, b_len: usize, s: In, s_len: usize, k: In, k_len: usize, out: Out, out_len: usize);
+    #[cfg(group_drift)]
+    fn egl_circuit_run_encrypted(s: In, s_len: usize, k: In, k_len: usize, c: Bytes, c_len: usize, ins: In, ins_len: usize, wires: Out, wires_len: usize, out: Out, out_len: usize);
+    #[cfg(group_drift)]
+    fn egl_drift_run(s: In, s_len: usize, k: In, k_len: usize, key: In, key_len: usize, z: In, z_len: usize, c: Bytes, c_len: usize, ins: In, ins_len: usize, plain: Bytes, plain_len: usize, wires: Out, wires_len: usize, out: Out, out_len: usize, drifts: Out, drifts_len: usize);
 }
 
 #[cfg(group_circuit)]
@@ -83,6 +88,35 @@ pub fn blind_rotate(p: &[u32; 6], src: &[u32], key: &[u32], x: &mut [u32], y: &m
 #[cfg(group_gates)]
 pub fn nand(p: &[u32; 6], a: &[u32], b: &[u32], s: &[u32], k: &[u32], out: &mut [u32]) {
     done!(p, egl_gates_nand(a.as_ptr(), a.len(), b.as_ptr(), b.len(), s.as_ptr(), s.len(), k.as_ptr(), k.len(), out.as_mut_ptr(), out.len()))
+}
+
+/// The words that a run is lent: the switching key, the bootstrapping key and the inputs' ciphertexts, then the wires' and the outputs' to be written.
+#[cfg(group_drift)]
+pub struct Lent<'a> {
+    pub keys: [&'a [u32]; 2],
+    pub circuit: &'a [u8],
+    pub ins: &'a [u32],
+    pub wires: &'a mut [u32],
+    pub out: &'a mut [u32],
+}
+
+#[cfg(group_drift)]
+pub fn run_encrypted(p: &[u32; 6], Lent { keys: [s, k], circuit: c, ins, wires, out }: Lent) {
+    done!(p, egl_circuit_run_encrypted(s.as_ptr(), s.len(), k.as_ptr(), k.len(), c.as_ptr(), c.len(), ins.as_ptr(), ins.len(), wires.as_mut_ptr(), wires.len(), out.as_mut_ptr(), out.len()))
+}
+
+/// Whether all are inside stands in the high half.
+#[cfg(group_drift)]
+pub fn run_drift(p: &[u32; 6], Lent { keys: [s, k], circuit: c, ins, wires, out }: Lent, secret: [&[u32]; 2], plain: &[u8], drifts: &mut [u32]) -> bool {
+    let [key, z] = secret;
+    let answer = unsafe {
+        egl_drift_run(
+            p[0], p[1], p[2], p[3], p[4], p[5], s.as_ptr(), s.len(), k.as_ptr(), k.len(), key.as_ptr(), key.len(), z.as_ptr(), z.len(), c.as_ptr(), c.len(),
+            ins.as_ptr(), ins.len(), plain.as_ptr(), plain.len(), wires.as_mut_ptr(), wires.len(), out.as_mut_ptr(), out.len(), drifts.as_mut_ptr(), drifts.len(),
+        )
+    };
+    assert_eq!(answer as u32, 0, "the library refused");
+    answer >> 32 != 0
 }
 
 /// A refusal is an answer here: number, and above it the place.

@@ -162,6 +162,34 @@ fn circuits() {
     table("Reading the largest circuit (256, 1,024, 64); bar: library at most 1.2 of plain Rust", ways, 5000, "plain Rust");
 }
 
+/// Three inputs, a not of the first, and a mux by it of the second and the third: two rotations.
+#[cfg(group_drift)]
+const NOT_MUX: [u8; 29] = [b'E', b'G', b'L', 1, 0, 3, 0, 2, 0, 1, 0, 2, 0, 0, 0, 0, 0, 0, 0, 13, 0, 3, 0, 1, 0, 2, 0, 4, 0];
+
+#[cfg(group_drift)]
+fn drifts() {
+    let n = SET[0] as usize;
+    // The time does not depend on what keys and ciphertexts hold.
+    let (key, switching, ins) = (words(n * 12 * N, 9), words(4 * 9 * N * (n + 1), 11), words(3 * (n + 1), 13));
+    let bits = |len: usize, seed: u64| -> Vec<u32> { words(len, seed).iter().map(|x| x >> 31).collect() };
+    let (level0, level1) = (bits(n, 16), bits(N, 17));
+    let (mut w1, mut w2, mut o1, mut o2, mut drifts) = (vec![0; 5 * (n + 1)], vec![1; 5 * (n + 1)], vec![0; n + 1], vec![1; n + 1], vec![0; 5]);
+    let keys = [&switching[..], &key[..]];
+    fn lent<'a>(keys: [&'a [u32]; 2], ins: &'a [u32], wires: &'a mut [u32], out: &'a mut [u32]) -> library::Lent<'a> {
+        library::Lent { keys: black_box(keys), circuit: black_box(&NOT_MUX), ins: black_box(ins), wires, out }
+    }
+    library::run_encrypted(&SET, lent(keys, &ins, &mut w1, &mut o1));
+    library::run_drift(&SET, lent(keys, &ins, &mut w2, &mut o2), [&level0, &level1], &[1, 0, 1], &mut drifts);
+    assert!(w1 == w2 && o1 == o2, "the two runs differ");
+    let ways = vec![
+        way("encrypted run, a not and a mux", || library::run_encrypted(black_box(&SET), lent(keys, &ins, &mut w1, &mut o1))),
+        way("drift run of the same", || {
+            black_box(library::run_drift(black_box(&SET), lent(keys, &ins, &mut w2, &mut o2), [&level0, &level1], black_box(&[1, 0, 1]), &mut drifts));
+        }),
+    ];
+    table("A drift run at the 128-bit set; bar: at most 1.05 of the encrypted run", ways, 5, "encrypted run, a not and a mux");
+}
+
 fn main() {
     // a part may be named on the command line, so that one table can be had alone
     let asked: Vec<String> = std::env::args().skip(1).collect();
@@ -185,5 +213,9 @@ fn main() {
     #[cfg(group_circuit)]
     if wanted("circuit") {
         circuits();
+    }
+    #[cfg(group_drift)]
+    if wanted("drift") {
+        drifts();
     }
 }

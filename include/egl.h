@@ -1,13 +1,17 @@
 /* egl.h: the proved evaluator of encrypted gates, as C sees it. Link libegl_c.a (x86-64 Linux) and the C library's mathematics (-lm).
  *
- * Every function takes any numbers and any buffers. It does its work or gives a refusal, and a refused call has written to none of the
+ * Calls. Every function takes any numbers and any buffers. It does its work or gives a refusal, and a refused call has written to none of the
  * memory lent to it. A buffer is a pointer and the number of its elements (not bytes). The pointer must be valid for that many elements,
- * aligned, and, where it is written to, must not overlap another buffer of the call; with length 0 it may be any pointer but NULL.
+ * aligned for one element, and, where it is written to, must not overlap another buffer of the call. With length 0 the pointer is not followed and may
+ * be NULL. No function allocates, keeps a pointer, or needs more than 64 KB of stack (the deepest, a drift run, takes about 56,320 bytes).
  *
- * The answer is one number of 64 bits: the refusal in its low half, 0 when the work is done, and the place in its high half (only refusals
+ * Threads. Nothing is kept between calls and nothing is shared but what you lend: any functions may run in any threads at once, as long as no buffer that
+ * one call writes to is lent to another at the same time. Keys are never written to, so one key serves all threads.
+ *
+ * Answers. The answer is one number of 64 bits: the refusal in its low half, 0 when the work is done, and the place in its high half (only refusals
  * 6 to 10, those of circuits, have one). A function that gives a number beside its answer, as a decryption, puts it into the high half instead
- * (EGL_VALUE); it is 0 beside a refusal, but that egl_circuit_work's refusals have their place there. Checks go in the order of the numbers, but that
- * a circuit under 11 bytes gets 8 before 6 and 7, and the lengths that depend on a circuit (2) come after it:
+ * (EGL_VALUE); it is 0 beside a refusal, but that those of egl_circuit_work, egl_drift_run and egl_drift_gate have their place there. Checks go in
+ * the order of the numbers, but that a circuit under 11 bytes gets 8 before 6 and 7, and the lengths that depend on a circuit (2) come after it:
  *   1  a parameter is outside its range
  *   2  a buffer has not exactly its stated length
  *   3  rotation amount above 2N, extraction index N or more, or a key row's index outside its range
@@ -15,8 +19,6 @@
  *   5  message modulus not 2, 4, 8, 16, 32 or 64
  *   6  circuit: wrong mark      7  circuit: version not 1      8  circuit: length or count
  *   9  circuit: a gate         10  circuit: an output
- *
- * No function allocates, keeps a pointer, or needs more than 64 KB of stack (the deepest, a circuit on ciphertexts, takes 55,920 bytes).
  *
  * Parameters: n 1..1,100; nbit 1..10, N = 2^nbit; bgbit 1..24, l at least 1, l * bgbit at most 32; basebit 1..6, t at least 1,
  * basebit * t at most 30. A word (uint32_t) counts 2^-32 of a turn.
@@ -31,18 +33,78 @@
 extern "C" {
 #endif
 
+/* ---- version ---- */
+
+/* The interface that this header describes. One more with each release in which a function is added, taken away or changed: where egl_version() gives another number, header and
+ * archive do not belong together. */
+#define EGL_VERSION 1
+
+/* The interface that the archive has. */
+uint32_t egl_version(void);
+
+/* ---- answers ---- */
+
 typedef uint64_t egl_answer;
 
 #define EGL_NUMBER(answer) ((uint32_t)(answer))
 #define EGL_PLACE(answer) ((uint32_t)((answer) >> 32))
 #define EGL_VALUE(answer) ((uint32_t)((answer) >> 32))
 
+/* ---- the six numbers, published sets, lengths ---- */
+
 /* The six numbers, in the order in which every function takes them. */
 #define EGL_PARAMS uint32_t n, uint32_t nbit, uint32_t bgbit, uint32_t l, uint32_t basebit, uint32_t t
 
-/* ---- parameters ---- */
+/* The published sets that are in range, as the first six arguments of any call: egl_params_check(EGL_SET_128). With each go the standard deviations of its
+ * noise as fractions of a turn: _NOISE_LV0 for ciphertexts at level 0 and the switching key, _NOISE_LV1 for the bootstrapping key. Drawing noise is the
+ * caller's: lent words of noise are added as they are. At level 1 of UINT2 to UINT6 the deviation is far below one word, so that the drawn noise is nearly
+ * always 0 and the key hides nothing. */
+#define EGL_SET_80 550, 10, 6, 3, 2, 7
+#define EGL_SET_80_NOISE_LV0 5.0e-5
+#define EGL_SET_80_NOISE_LV1 3.73e-8
+#define EGL_SET_110 630, 10, 6, 3, 2, 8
+#define EGL_SET_110_NOISE_LV0 3.0517578125e-5
+#define EGL_SET_110_NOISE_LV1 2.9802322387695313e-8
+#define EGL_SET_128 700, 10, 6, 3, 2, 9
+#define EGL_SET_128_NOISE_LV0 2.0e-5
+#define EGL_SET_128_NOISE_LV1 2.0e-8
+#define EGL_SET_UINT1 700, 10, 10, 2, 2, 8
+#define EGL_SET_UINT1_NOISE_LV0 2.0e-5
+#define EGL_SET_UINT1_NOISE_LV1 2.0e-8
+#define EGL_SET_UINT2 687, 10, 18, 1, 4, 3
+#define EGL_SET_UINT2_NOISE_LV0 2.120846893069972e-5
+#define EGL_SET_UINT2_NOISE_LV1 2.3184122752704995e-12
+#define EGL_SET_UINT3 820, 10, 23, 1, 6, 2
+#define EGL_SET_UINT3_NOISE_LV0 2.5167616095979554e-6
+#define EGL_SET_UINT3_NOISE_LV1 2.220446049250313e-16
+#define EGL_SET_UINT4 820, 10, 22, 1, 5, 3
+#define EGL_SET_UINT4_NOISE_LV0 2.5167616095979554e-6
+#define EGL_SET_UINT4_NOISE_LV1 2.220446049250313e-16
+#define EGL_SET_UINT5 1071, 10, 22, 1, 6, 3
+#define EGL_SET_UINT5_NOISE_LV0 7.08822676541043e-8
+#define EGL_SET_UINT5_NOISE_LV1 2.2204460492503131e-17
+#define EGL_SET_UINT6 1071, 10, 22, 1, 6, 3
+#define EGL_SET_UINT6_NOISE_LV0 7.08822676541043e-8
+#define EGL_SET_UINT6_NOISE_LV1 2.2204460492503131e-17
 
-/* 1 where a number is outside its range. */
+/* Lengths in words for six numbers in range, which may be one of the sets: EGL_SWITCHING_WORDS(EGL_SET_128). A ciphertext at level 0 or at level 1; the
+ * switching key, and the masks and the noise that its generation is lent; the bootstrapping key, and its masks, which are as many as its noise. */
+#define EGL_CIPHERTEXT_WORDS(...) EGL_CIPHERTEXT_WORDS_(__VA_ARGS__)
+#define EGL_CIPHERTEXT_WORDS_(n, nbit, bgbit, l, basebit, t) ((size_t)(n) + 1)
+#define EGL_CIPHERTEXT_LV1_WORDS(...) EGL_CIPHERTEXT_LV1_WORDS_(__VA_ARGS__)
+#define EGL_CIPHERTEXT_LV1_WORDS_(n, nbit, bgbit, l, basebit, t) (((size_t)1 << (nbit)) + 1)
+#define EGL_SWITCHING_WORDS(...) EGL_SWITCHING_WORDS_(__VA_ARGS__)
+#define EGL_SWITCHING_WORDS_(n, nbit, bgbit, l, basebit, t) (((size_t)(t) << ((nbit) + (basebit))) * ((size_t)(n) + 1))
+#define EGL_SWITCHING_MASKS(...) EGL_SWITCHING_MASKS_(__VA_ARGS__)
+#define EGL_SWITCHING_MASKS_(n, nbit, bgbit, l, basebit, t) (((size_t)(t) << (nbit)) * (((size_t)1 << (basebit)) - 1) * (size_t)(n))
+#define EGL_SWITCHING_NOISE(...) EGL_SWITCHING_NOISE_(__VA_ARGS__)
+#define EGL_SWITCHING_NOISE_(n, nbit, bgbit, l, basebit, t) (((size_t)(t) << (nbit)) * (((size_t)1 << (basebit)) - 1))
+#define EGL_BOOTSTRAPPING_WORDS(...) EGL_BOOTSTRAPPING_WORDS_(__VA_ARGS__)
+#define EGL_BOOTSTRAPPING_WORDS_(n, nbit, bgbit, l, basebit, t) ((size_t)(n) * 4 * (size_t)(l) << (nbit))
+#define EGL_BOOTSTRAPPING_MASKS(...) EGL_BOOTSTRAPPING_MASKS_(__VA_ARGS__)
+#define EGL_BOOTSTRAPPING_MASKS_(n, nbit, bgbit, l, basebit, t) ((size_t)(n) * 2 * (size_t)(l) << (nbit))
+
+/* Refused with 1 where a number is outside its range. */
 egl_answer egl_params_check(EGL_PARAMS);
 
 /* ---- doubles and words ---- */
@@ -133,6 +195,7 @@ egl_answer egl_trgsw_mask_amount(EGL_PARAMS, uint32_t x);
 
 /* The rotation amount of the last word b, from 0 to 2N, as the value; the rounding does not wrap. Refusal 1. */
 egl_answer egl_trgsw_body_amount(EGL_PARAMS, uint32_t b);
+
 /* ---- key material ---- */
 
 /* The decomposition's offset, as the value. Refusal 1. */
@@ -141,19 +204,20 @@ egl_answer egl_key_decomposition_offset(EGL_PARAMS);
 /* The test vector: a zero, b an eighth of a turn in each of its N words. Refusals 1, 2. */
 egl_answer egl_key_gen_testvec(EGL_PARAMS, uint32_t *a, size_t a_len, uint32_t *b, size_t b_len);
 
-/* The switching key, 2^basebit * t * N rows of n + 1 words. Rows with k = 0 are zero; the others draw, in row order, n masks and one noise word each:
- * masks has N * t * (2^basebit - 1) * n words, noise N * t * (2^basebit - 1). key_lv0 has n words, key_lv1 N. Refusals 1, 2, 4. */
+/* The switching key, 2^basebit * t * N rows of n + 1 words: row (i, j, k), at 2^basebit * t * i + 2^basebit * j + k, encrypts k * key_lv1[i] * 2^(32 - (j + 1) * basebit).
+ * Rows with k = 0 are zero; the others draw, in row order, n masks and one noise word each: masks has N * t * (2^basebit - 1) * n words, noise
+ * N * t * (2^basebit - 1). key_lv0 has n words, key_lv1 N. Refusals 1, 2, 4. */
 egl_answer egl_key_gen_key_switching_key(EGL_PARAMS, const uint32_t *key_lv0, size_t key_lv0_len, const uint32_t *key_lv1, size_t key_lv1_len, const uint32_t *masks, size_t masks_len, const uint32_t *noise, size_t noise_len, uint32_t *out, size_t out_len);
 
 /* What a lookup of row (i, j, k) in a switching key of so many words is answered. Refusals 1, 2, 3. */
 egl_answer egl_key_switching_row_answer(EGL_PARAMS, size_t words, size_t i, size_t j, size_t k);
 
-/* The place of that row among the rows, modulo 2^32: its first word stands at (n + 1) times this. A number for any indices at all; whether there is
- * such a row egl_key_switching_row_answer tells. */
-uint32_t egl_key_row_index(EGL_PARAMS, uint32_t i, uint32_t j, uint32_t k);
+/* The place of that row among the rows, as the value: its first word stands at (n + 1) times this. Refusals 1, 3. */
+egl_answer egl_key_row_index(EGL_PARAMS, size_t i, size_t j, size_t k);
 
-/* One bit's part of the bootstrapping key: 2l rows of 2N words, encryptions of zero with m times the gadget added. masks and noise have 2l * N words,
- * key_lv1 N, out 2l * 2N. Refusals 1, 2, 4. */
+/* One bit's part of the bootstrapping key: 2l rows of 2N words, a then b, encryptions of zero that draw N masks and N noise words each, in row order. Then
+ * m * 2^(32 - (i + 1) * bgbit), modulo 2^32, is added to the first word of a in row i and to the first word of b in row l + i, i from 0 to l - 1. m is any
+ * word (a key has 0 or 1). masks and noise have 2l * N words, key_lv1 N, out 2l * 2N. Refusals 1, 2, 4. */
 egl_answer egl_trgsw_encrypt_torus(EGL_PARAMS, uint32_t m, const uint32_t *masks, size_t masks_len, const uint32_t *noise, size_t noise_len, const uint32_t *key_lv1, size_t key_lv1_len, uint32_t *out, size_t out_len);
 
 /* The bootstrapping key: such a part for each of the n bits of key_lv0. masks and noise have n * 2l * N words, out n * 2l * 2N. Refusals 1, 2, 4. */
@@ -161,7 +225,9 @@ egl_answer egl_trgsw_gen_bootstrapping_key(EGL_PARAMS, const uint32_t *key_lv0, 
 
 /* ---- decomposition, external product, blind rotation, key switching ---- */
 
-/* The 2l digit polynomials of a pair, in order: out has 2l * N words. Refusals 1, 2. */
+/* The 2l digit polynomials of a pair, N words each: the l digits of a, the highest first, then those of b. A digit is a word that, read as signed
+ * (int32_t), lies from -2^(bgbit - 1) to 2^(bgbit - 1) - 1; digit i, from 0, counts 2^(32 - (i + 1) * bgbit), and the sum of all is the coefficient with its
+ * 32 - l * bgbit low bits cleared, modulo 2^32. out has 2l * N words. Refusals 1, 2. */
 egl_answer egl_trgsw_decomposition(EGL_PARAMS, const uint32_t *a, size_t a_len, const uint32_t *b, size_t b_len, uint32_t *out, size_t out_len);
 
 /* The sum of digit polynomial times row; rows has 2l rows of 2N words, a then b. Refusals 1, 2. */
@@ -170,14 +236,14 @@ egl_answer egl_trgsw_external_product(EGL_PARAMS, const uint32_t *rows, size_t r
 /* (a1, b1) + external product of (a2 - a1, b2 - b1). Refusals 1, 2. */
 egl_answer egl_trgsw_cmux(EGL_PARAMS, const uint32_t *a1, size_t a1_len, const uint32_t *b1, size_t b1_len, const uint32_t *a2, size_t a2_len, const uint32_t *b2, size_t b2_len, const uint32_t *rows, size_t rows_len, uint32_t *outa, size_t outa_len, uint32_t *outb, size_t outb_len);
 
-/* Step i of the blind rotation, in place on the accumulator (a, b), with the mask word of that step; key is the whole bootstrapping key, n times 2l rows of
- * 2N words. Refusals 1, 2, 3. */
+/* Step i of the blind rotation, i below n, in place on the accumulator (a, b), with the mask word of that step; key is the whole bootstrapping key, n times 2l
+ * rows of 2N words. Accumulators that are aligned to 16 bytes are faster, here and below, by about a hundredth; none has to be. Refusals 1, 2, 3. */
 egl_answer egl_trgsw_blind_rotate_step(EGL_PARAMS, const uint32_t *key, size_t key_len, size_t i, uint32_t mask, uint32_t *a, size_t a_len, uint32_t *b, size_t b_len);
 
 /* The blind rotation of the test vector by the level-0 ciphertext src. Refusals 1, 2. */
 egl_answer egl_trgsw_blind_rotate(EGL_PARAMS, const uint32_t *src, size_t src_len, const uint32_t *key, size_t key_len, uint32_t *a, size_t a_len, uint32_t *b, size_t b_len);
 
-/* A level-1 ciphertext src (N + 1 words) under the level-0 key; rows that a field of 0 would choose are never read. Refusals 1, 2. */
+/* A level-1 ciphertext src (N + 1 words) under the level-0 key; no word of out depends on the rows with k = 0, which may hold anything. Refusals 1, 2. */
 egl_answer egl_trgsw_identity_key_switching(EGL_PARAMS, const uint32_t *src, size_t src_len, const uint32_t *ksk, size_t ksk_len, uint32_t *out, size_t out_len);
 
 /* ---- gates on level-0 ciphertexts (n + 1 words each); ksk is the switching key, bsk the bootstrapping key. Refusals 1, 2. ---- */
@@ -206,22 +272,43 @@ egl_answer egl_gates_xnor(EGL_PARAMS, const uint32_t *a, size_t a_len, const uin
 /* b where a is true, else c: two rotations and one switch. */
 egl_answer egl_gates_mux(EGL_PARAMS, const uint32_t *a, size_t a_len, const uint32_t *b, size_t b_len, const uint32_t *c, size_t c_len, const uint32_t *ksk, size_t ksk_len, const uint32_t *bsk, size_t bsk_len, uint32_t *out, size_t out_len);
 
-/* The same of three gates. */
+/* The same of three gates: or(and(a, b), and(not a, c)). */
 egl_answer egl_gates_mux_naive(EGL_PARAMS, const uint32_t *a, size_t a_len, const uint32_t *b, size_t b_len, const uint32_t *c, size_t c_len, const uint32_t *ksk, size_t ksk_len, const uint32_t *bsk, size_t bsk_len, uint32_t *out, size_t out_len);
 
-/* Each word negated. */
+/* Each word negated, modulo 2^32. */
 egl_answer egl_gates_not(EGL_PARAMS, const uint32_t *a, size_t a_len, uint32_t *out, size_t out_len);
 
 /* A copy. */
 egl_answer egl_gates_copy(EGL_PARAMS, const uint32_t *a, size_t a_len, uint32_t *out, size_t out_len);
 
-/* A bit, 0 or not 0, that every key decrypts. */
+/* A bit, 0 or not 0, that every key decrypts: n words of 0, then 0x20000000 for true, 0xE0000001 for false. */
 egl_answer egl_gates_constant(EGL_PARAMS, uint32_t bit, uint32_t *out, size_t out_len);
 
-/* ---- circuits, as bytes ---- */
+/* ---- circuits, as bytes ----
+ *
+ * Fields of two bytes have the low byte first. A circuit is, from byte 0 on:
+ *   0   the mark, three bytes 'E' 'G' 'L'
+ *   3   the version, 1
+ *   5   inputs, 0 to 256        7   gates, 0 to 1,024        9   outputs, 1 to 64
+ *   11  8 bytes for each gate: its kind (one byte), a zero byte, three operands of two bytes
+ *   11 + 8 * gates   two bytes for each output: a wire
+ * and nothing more: 11 + 8 * gates + 2 * outputs bytes, at most EGL_CIRCUIT_BYTES. The inputs are wires 0, 1, 2 and so on, gate g (from 0) gives wire inputs + g. An
+ * operand is a wire below the gate's own; operands that a kind does not need are 0, behind those that it needs. An output is any wire. Kinds, with operands a, b, c:
+ *   0 false            1 true             2 not a            3 a and b          4 a or b
+ *   5 not (a and b)    6 not (a or b)     7 a xor b          8 not (a xor b)    9 (not a) and b
+ *   10 a and (not b)   11 (not a) or b    12 a or (not b)    13 b where a is true, else c
+ * A refused circuit's place is the first byte of the field at fault: 0 for the mark and for less than 11 bytes, 11 for a wrong length. */
+
+/* The bytes of the longest circuit, and the words that egl_circuit_counts fills. */
+#define EGL_CIRCUIT_BYTES 8331
+#define EGL_CIRCUIT_COUNTS 5
 
 /* Whether the bytes are a circuit. Refusals 6 to 10 with their place. */
 egl_answer egl_circuit_check(const uint8_t *bytes, size_t bytes_len);
+
+/* What a circuit has, for a caller who sizes buffers: out[0] is its version, out[1] the inputs, out[2] the gates, out[3] the outputs, out[4] its work. It has
+ * out[1] + out[2] wires. out has EGL_CIRCUIT_COUNTS words. Refusals 6 to 10 with their place, then 2. */
+egl_answer egl_circuit_counts(const uint8_t *bytes, size_t bytes_len, uint32_t *out, size_t out_len);
 
 /* The work of a circuit, as the value: one for each gate of kind 3 or more. Refusals 6 to 10 with their place. */
 egl_answer egl_circuit_work(const uint8_t *bytes, size_t bytes_len);
@@ -235,10 +322,35 @@ egl_answer egl_circuit_run_plain(const uint8_t *bytes, size_t bytes_len, const u
  * wires and out. */
 egl_answer egl_circuit_run_encrypted(EGL_PARAMS, const uint32_t *ksk, size_t ksk_len, const uint32_t *bsk, size_t bsk_len, const uint8_t *bytes, size_t bytes_len, const uint32_t *ins, size_t ins_len, uint32_t *wires, size_t wires_len, uint32_t *out, size_t out_len);
 
-/* Gate g of such a run alone, from 0 on: it reads the wires before its own and writes its own, wire inputs + g. The inputs' ciphertexts stand in front of
+/* Gate g of such a run alone, from 0 on: from the wires before its own it makes its own, wire inputs + g, and no other. The inputs' ciphertexts stand in front of
  * wires from the start; all gates in order make the run. Where the circuit has no gate g nothing is written and the answer is 0. Refusals 1, 2 for the
  * keys, 6 to 10 with their place, 2 for wires. */
 egl_answer egl_circuit_run_gate(EGL_PARAMS, const uint32_t *ksk, size_t ksk_len, const uint32_t *bsk, size_t bsk_len, const uint8_t *bytes, size_t bytes_len, size_t g, uint32_t *wires, size_t wires_len);
+
+/* ---- drift, for whoever holds both secret keys: key is the level-0 key (n words), z the level-1 key (N words), all words 0 or 1 ----
+ *
+ * A wire's drift is how far its phase is from the eighths of a turn that it carries, a word that counts 2^-32 of a turn and is to be read as signed
+ * (int32_t). A gate rotates a sum of its operands, mux two sums; what operands and rounding bring into a rotation is the brought-in drift. Inside means
+ * below an eighth of a turn, 2^29, in absolute value. */
+
+/* What egl_circuit_run_encrypted does, and the drift of each wire into drifts, one word for each in wire order. plain has a byte an input, 0 for false and any
+ * other for true: the bits that the inputs are meant to carry. The value is 1 where the drift brought into every rotation of every gate and the drift of every
+ * output are inside, else 0. Where it is 1, each output decrypts to the bit that egl_circuit_run_plain gives for plain, whatever the key material and the
+ * ciphertexts hold. Refusals 1, 2 for ksk, bsk, key and z, 4, 6 to 10 with their place, 2 for ins, plain, wires, out and drifts. */
+egl_answer egl_drift_run(EGL_PARAMS, const uint32_t *ksk, size_t ksk_len, const uint32_t *bsk, size_t bsk_len, const uint32_t *key, size_t key_len, const uint32_t *z, size_t z_len, const uint8_t *bytes, size_t bytes_len, const uint32_t *ins, size_t ins_len, const uint8_t *plain, size_t plain_len, uint32_t *wires, size_t wires_len, uint32_t *out, size_t out_len, uint32_t *drifts, size_t drifts_len);
+
+/* Gate g of such a run alone, from 0 on: it reads the wires and drifts before its own and writes its own, wire inputs + g. The inputs' ciphertexts and drifts
+ * (egl_fresh_drift) stand in front from the start; all gates in order make the run. The value is the drift brought into its rotation, of mux's two the one that
+ * is larger in absolute value and the first where they are alike; 0 for a gate that rotates nothing. Where the circuit has no gate g nothing is written and the
+ * answer is 0. Refusals 1, 2 for ksk, bsk, key and z, 4, 6 to 10 with their place, 2 for wires and drifts. */
+egl_answer egl_drift_gate(EGL_PARAMS, const uint32_t *ksk, size_t ksk_len, const uint32_t *bsk, size_t bsk_len, const uint32_t *key, size_t key_len, const uint32_t *z, size_t z_len, const uint8_t *bytes, size_t bytes_len, size_t g, uint32_t *wires, size_t wires_len, uint32_t *drifts, size_t drifts_len);
+
+/* The drift of a ciphertext c (n + 1 words) that is meant to carry a bit, 0 or not 0, as the value: its phase less 2^29 for true, less -2^29 for false.
+ * Refusals 1, 2, 4. */
+egl_answer egl_fresh_drift(EGL_PARAMS, const uint32_t *key, size_t key_len, const uint32_t *c, size_t c_len, uint8_t bit);
+
+/* 1 where a drift is inside, else 0. */
+uint32_t egl_drift_inside(uint32_t drift);
 
 #ifdef __cplusplus
 }

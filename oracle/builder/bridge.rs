@@ -46,6 +46,7 @@ fn parts(kind: &str, i: usize) -> (String, String, String, Option<u32>) {
         "longs" => ("uint64_t", 8),
         "doubles" => ("double", 8),
         "f64" => return ("double".into(), format!("double a{i} = turn();"), format!("a{i}"), None),
+        "u8" => return ("uint8_t".into(), format!("uint64_t a{i} = num();"), format!("(uint8_t)a{i}"), None),
         "u32" => return ("uint32_t".into(), format!("uint64_t a{i} = num();"), format!("(uint32_t)a{i}"), None),
         _ => return ("uint64_t".into(), format!("uint64_t a{i} = num();"), format!("a{i}"), None),
     };
@@ -86,9 +87,14 @@ fn source(ffi: &Path, files: &BTreeSet<&str>) -> String {
     let (mut head, mut cases) = (HEAD.to_string(), String::new());
     for file in files {
         let text = fs::read_to_string(ffi.join(format!("{file}.rs"))).unwrap_or_default();
-        let with_params = text.contains("c_functions!");
-        // a line with types in it is a declaration for linking, not for the bridge
-        for line in text.lines().filter(|l| !l.contains(':')).filter_map(|l| l.trim().strip_prefix("fn egl_")) {
+        let mut with_params = true;
+        for line in text.lines() {
+            // the six parameters travel with the functions of the one list and not with those of the other
+            if line.contains("_functions!") {
+                with_params = line.contains("c_functions!");
+            }
+            // a line with types in it is a declaration for linking, not for the bridge
+            let Some(line) = line.trim().strip_prefix("fn egl_").filter(|l| !l.contains(':')) else { continue };
             let Some((name, rest)) = line.split_once('(') else { continue };
             let kinds: Vec<&str> = rest.trim_end_matches(");").split(", ").filter(|k| !k.is_empty()).collect();
             let (declared, case) = one(&format!("egl_{name}"), &kinds, with_params);

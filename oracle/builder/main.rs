@@ -2,7 +2,10 @@
 //! them with the proved library's archive, and runs the driver. Compiled things are kept
 //! under target/oracle and made again only when their text changes.
 
+mod archive;
 mod bridge;
+mod declared;
+mod interface;
 mod rules;
 
 use rules::Set;
@@ -14,11 +17,16 @@ use std::sync::atomic::{AtomicUsize, Ordering};
 use std::sync::Mutex;
 
 /// The groups of comparisons, in port order.
-const GROUPS: [&str; 11] = ["params", "utils", "product", "tlwe", "trlwe", "key", "rotation", "trgsw", "gates", "circuit", "encrypted"];
+const GROUPS: [&str; 12] =
+    ["params", "utils", "product", "tlwe", "trlwe", "key", "rotation", "trgsw", "gates", "circuit", "encrypted", "drift"];
 
-/// The files in ffi/ with the functions that a group needs: encrypted runs are compared with single gates.
+/// The files in ffi/ with the functions that a group needs: encrypted runs are compared with single gates, drift runs with encrypted ones.
 fn declarations(group: &str) -> Vec<&str> {
-    if group == "encrypted" { vec!["gates", "encrypted"] } else { vec![group] }
+    match group {
+        "encrypted" => vec!["gates", "encrypted"],
+        "drift" => vec!["gates", "encrypted", "drift"],
+        _ => vec![group],
+    }
 }
 
 struct Options {
@@ -26,6 +34,8 @@ struct Options {
     original: PathBuf,
     archive: PathBuf,
     groups: Option<Vec<String>>,
+    /// Groups whose functions the archive lacks are left out instead of being an error.
+    offered: bool,
     sets: Option<Vec<String>>,
     rest: Vec<String>,
 }
@@ -43,6 +53,7 @@ fn options() -> Options {
         archive: root.join("target/staticlib/libegl_c.a"),
         root,
         groups: None,
+        offered: false,
         sets: None,
         rest: Vec::new(),
     };
@@ -53,6 +64,7 @@ fn options() -> Options {
             "--original" => o.original = value().into(),
             "--archive" => o.archive = value().into(),
             "--groups" => o.groups = list(value()),
+            "--offered" => o.offered = true,
             "--sets" => o.sets = list(value()),
             _ => o.rest.push(a),
         }
@@ -74,36 +86,29 @@ fn sets(o: &Options) -> Vec<Set> {
     out
 }
 
-/// The functions that a file declares and the archive does not offer.
-fn missing(o: &Options, file: &str, archive: &[u8]) -> Vec<String> {
-    let path = o.root.join(format!("oracle/driver/ffi/{file}.rs"));
-    let text = fs::read_to_string(&path).unwrap_or_else(|e| fail(&format!("{}: {e}", path.display())));
-    let names = text.split("fn egl_").skip(1).filter_map(|t| t.split('(').next()).map(|t| format!("egl_{t}"));
-    let held = |name: &String| {
-        let wanted: Vec<u8> = [name.as_bytes(), b"\0"].concat();
-        archive.windows(wanted.len()).any(|w| w == wanted)
+/// The functions that a group needs.
+fn functions(o: &Options, group: &str) -> Vec<String> {
+    let declared = |file: &&str| {
+        let path = o.root.join(format!("oracle/driver/ffi/{file}.rs"));
+        let text = fs::read_to_string(&path).unwrap_or_else(|e| fail(&format!("{}: {e}", path.display())));
+        declared::harness(&text)
     };
-    names.filter(|n| !held(n)).collect()
+    declarations(group).iter().flat_map(declared).map(|f| f.name).collect()
 }
 
-/// The asked groups, or every one whose functions the archive offers; says which are left out.
-fn groups(o: &Options) -> Vec<String> {
-    let archive = fs::read(&o.archive).unwrap_or_else(|e| fail(&format!("no archive at {}: {e}", o.archive.display())));
-    // Only the archive's table of names is looked through, not its machine code.
-    let table = &archive[..archive.len().min(1 << 20)];
+/// The asked groups, all of them unless some are named. A function that the archive lacks is an error, or with `--offered` leaves out its groups, and that is said.
+fn groups(o: &Options, archive: &[u8]) -> Vec<String> {
+    let names: BTreeSet<String> = archive::names(archive).into_iter().collect();
+    if let Some(unknown) = o.groups.iter().flatten().find(|g| !GROUPS.contains(&g.as_str())) {
+        fail(&format!("no group {unknown}"));
+    }
     let mut out = Vec::new();
-    for g in GROUPS {
-        let asked = o.groups.as_ref().is_some_and(|list| list.iter().any(|x| x == g));
-        if o.groups.is_some() && !asked {
-            continue;
-        }
-        let lacks: Vec<String> = declarations(g).iter().flat_map(|f| missing(o, f, table)).collect();
-        if lacks.is_empty() {
-            out.push(g.to_string());
-        } else if asked {
-            fail(&format!("group {g}: the archive lacks {}", lacks.join(", ")));
-        } else {
-            println!("group {g} is left out: the archive lacks {}", lacks.join(", "));
+    for g in GROUPS.into_iter().filter(|g| o.groups.as_ref().is_none_or(|list| list.iter().any(|x| x == g))) {
+        let lacks: Vec<String> = functions(o, g).into_iter().filter(|f| !names.contains(f)).collect();
+        match (lacks.is_empty(), o.offered) {
+            (true, _) => out.push(g.to_string()),
+            (false, true) => println!("group {g} is left out: the archive lacks {}", lacks.join(", ")),
+            (false, false) => fail(&format!("group {g}: the archive lacks {}", lacks.join(", "))),
         }
     }
     out
@@ -206,7 +211,11 @@ fn list(sets: &[Set], given: bool) -> String {
 fn main() {
     let o = options();
     let out = o.root.join("target/oracle");
-    let groups = groups(&o);
+    let archive = fs::read(&o.archive).unwrap_or_else(|e| fail(&format!("no archive at {}: {e}", o.archive.display())));
+    if o.rest == ["interface"] {
+        exit(!interface::hold(&o.root, &archive) as i32)
+    }
+    let groups = groups(&o, &archive);
     let sets = sets(&o);
     let given = o.original.join("src/lib.rs").exists();
     let mut text = shared(&o, &out);
@@ -221,7 +230,8 @@ fn main() {
 
     let driver = o.root.join("oracle/driver");
     read_all(&driver, &mut text);
-    let archive = fs::read(&o.archive).unwrap_or_default();
+    // the driver holds the version against the header
+    read_all(&o.root.join("include"), &mut text);
     text.push_str(&list);
     let source = driver.join("main.rs");
     let mut args = words(&["--crate-name", "driver", "-C", "opt-level=3", "-A", "unused", &source.to_string_lossy()]);
@@ -242,6 +252,8 @@ fn main() {
         text.push_str(&String::from_utf8_lossy(&archive));
     }
     std::env::set_var("ORACLE_SETS", out.join("sets.rs"));
+    let names: BTreeSet<String> = groups.iter().flat_map(|g| functions(&o, g)).collect();
+    std::env::set_var("ORACLE_FUNCTIONS", names.into_iter().collect::<Vec<_>>().join(","));
     let binary = out.join("driver");
     compile(&binary, &text, &args);
     let status = Command::new(&binary).args(&o.rest).status();

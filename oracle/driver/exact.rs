@@ -173,7 +173,8 @@ pub fn meaning(name: &str, a: bool, b: bool) -> bool {
     (x * sign(a) + y * sign(b) + e).rem_euclid(8) < 4
 }
 
-fn sum(name: &str, a: &[u32], b: &[u32]) -> Vec<u32> {
+/// What a two-input gate rotates.
+pub fn sum(name: &str, a: &[u32], b: &[u32]) -> Vec<u32> {
     let (_, x, y, e) = SUMS.into_iter().find(|g| g.0 == name).expect("a gate");
     let mut out: Vec<u32> =
         a.iter().zip(b).map(|(u, v)| u.wrapping_mul(x as u32).wrapping_add(v.wrapping_mul(y as u32))).collect();

@@ -19,7 +19,8 @@ pub fn cipher<'a>(p: &[u32; 6], wires: &'a [u32], w: usize) -> &'a [u32] {
     wires.get(w * words..(w + 1) * words).unwrap_or(&[])
 }
 
-fn constant(p: &[u32; 6], bit: bool) -> Vec<u32> {
+/// A bit that every key decrypts: masks of 0, and b an eighth of a turn, or for false one more than minus an eighth.
+pub fn constant(p: &[u32; 6], bit: bool) -> Vec<u32> {
     let mut out = vec![0; p[0] as usize + 1];
     out[p[0] as usize] = if bit { 1 << 29 } else { 1u32.wrapping_sub(1 << 29) };
     out

@@ -5,6 +5,13 @@ use crate::exact;
 use crate::source::Source;
 use crate::table::Sizes;
 
+/// Standard deviations in words: of ciphertexts and the switching key, and of the bootstrapping key.
+#[derive(Clone, Copy)]
+pub struct Spread {
+    pub level0: f64,
+    pub level1: f64,
+}
+
 pub struct Keys {
     pub p: [u32; 6],
     pub key_lv0: Vec<u32>,
@@ -19,18 +26,16 @@ fn noise(source: &mut Source, deviation: f64) -> u32 {
     ((sum - 6.0) * deviation).round() as i64 as u32
 }
 
-/// The published deviation at level 0 for 128 bits: 2e-5 of a turn.
-const LV0: f64 = 85899.0;
-
-/// At level 1: 2e-8 of a turn, and next to none beside wide digits, as the published sets have it.
-fn lv1(p: &[u32; 6]) -> f64 {
-    if p[2] > 10 { 0.5 } else { 86.0 }
+/// The published deviations for 128 bits: at level 0 2e-5 of a turn, at level 1 2e-8, and there next to none beside wide digits, as the
+/// published sets have it.
+fn published(p: &[u32; 6]) -> Spread {
+    Spread { level0: 85899.0, level1: if p[2] > 10 { 0.5 } else { 86.0 } }
 }
 
 /// A level-0 ciphertext of the plain word.
-fn tlwe(source: &mut Source, key: &[u32], plain: u32) -> Vec<u32> {
+fn tlwe(source: &mut Source, key: &[u32], plain: u32, deviation: f64) -> Vec<u32> {
     let mut out: Vec<u32> = (0..key.len()).map(|_| source.next() as u32).collect();
-    let body = plain.wrapping_add(noise(source, LV0)).wrapping_add(inner(&out, key));
+    let body = plain.wrapping_add(noise(source, deviation)).wrapping_add(inner(&out, key));
     out.push(body);
     out
 }
@@ -41,16 +46,20 @@ fn inner(a: &[u32], key: &[u32]) -> u32 {
 
 impl Keys {
     pub fn new(source: &mut Source, p: [u32; 6]) -> Keys {
+        Keys::spread(source, p, published(&p))
+    }
+
+    pub fn spread(source: &mut Source, p: [u32; 6], spread: Spread) -> Keys {
         let s = Sizes::of(&p);
         let key_lv0: Vec<u32> = (0..s.n).map(|_| (source.next() >> 40) as u32 & 1).collect();
         let key_lv1: Vec<u32> = (0..s.ring).map(|_| (source.next() >> 40) as u32 & 1).collect();
         let mut switching = Vec::with_capacity(s.switching());
         for z in &key_lv1 {
             for j in 0..s.t as u32 {
-                // an idle row is never read: it holds junk
+                // no word depends on an idle row: it holds junk
                 switching.extend((0..=s.n).map(|_| source.next() as u32));
                 for k in 1..s.base as u32 {
-                    switching.extend(tlwe(source, &key_lv0, (k * z) << (32 - (j + 1) * p[4])));
+                    switching.extend(tlwe(source, &key_lv0, (k * z) << (32 - (j + 1) * p[4]), spread.level0));
                 }
             }
         }
@@ -59,7 +68,7 @@ impl Keys {
             for row in 0..2 * p[3] {
                 let mut a: Vec<u32> = (0..s.ring).map(|_| source.next() as u32).collect();
                 let mut b = exact::product(&key_lv1, &a);
-                b.iter_mut().for_each(|x| *x = x.wrapping_add(noise(source, lv1(&p))));
+                b.iter_mut().for_each(|x| *x = x.wrapping_add(noise(source, spread.level1)));
                 let g = bit << (32 - (row % p[3] + 1) * p[2]);
                 let place = if row < p[3] { &mut a[0] } else { &mut b[0] };
                 *place = place.wrapping_add(g);
@@ -71,7 +80,11 @@ impl Keys {
     }
 
     pub fn encrypt(&self, source: &mut Source, bit: bool) -> Vec<u32> {
-        tlwe(source, &self.key_lv0, if bit { 1 << 29 } else { 7 << 29 })
+        self.encrypt_spread(source, bit, published(&self.p).level0)
+    }
+
+    pub fn encrypt_spread(&self, source: &mut Source, bit: bool, deviation: f64) -> Vec<u32> {
+        tlwe(source, &self.key_lv0, if bit { 1 << 29 } else { 7 << 29 }, deviation)
     }
 
     pub fn decrypt(&self, c: &[u32]) -> bool {

@@ -1,16 +1,20 @@
 //! Compares the proved library with the original, group by group and set by set.
-//!   driver                     runs every group, one line each; status 1 on any difference
+//!   driver                     runs every group, one line each; status 1 on any difference, and where a function never did its work
 //!   driver sample GROUP COUNT  lists COUNT cases of each of the group's routines, one a line
 
 #[cfg(bridge)]
 mod bridge;
 mod case;
 mod circuits;
+mod draw;
 mod exact;
 mod exact_run;
+mod exact_words;
 mod ffi;
 mod groups;
 mod honest;
+mod reckoned_run;
+mod reckoning;
 mod source;
 mod table;
 
@@ -21,6 +25,7 @@ mod list {
 
 use case::{Set, Tally};
 use groups::{Group, Run};
+use std::collections::BTreeSet;
 use std::sync::atomic::{AtomicUsize, Ordering};
 use std::sync::Mutex;
 
@@ -70,16 +75,17 @@ fn jobs<'a>(groups: &'a [Group], sets: &'a [Set]) -> Vec<Job<'a>> {
 }
 
 /// Runs the jobs on two threads, those with the largest keys first; prints a line for each
-/// and the sums of each group, and gives the number of differences.
-fn run_all(groups: &[Group], sets: &[Set]) -> u64 {
+/// and the sums of each group, and gives the number of differences and the functions that did their work.
+fn run_all(groups: &[Group], sets: &[Set]) -> (u64, BTreeSet<&'static str>) {
     let jobs = jobs(groups, sets);
     let mut order: Vec<usize> = (0..jobs.len()).collect();
     order.sort_by_key(|&i| std::cmp::Reverse(jobs[i].set.map_or(0, |s| s.p[0] << s.p[1])));
     let next = AtomicUsize::new(0);
     let done = Mutex::new(Vec::new());
+    let called = Mutex::new(BTreeSet::new());
     let work = || loop {
         let at = next.fetch_add(1, Ordering::SeqCst);
-        let Some(&i) = order.get(at) else { return };
+        let Some(&i) = order.get(at) else { return called.lock().unwrap().extend(ffi::done()) };
         let start = std::time::Instant::now();
         let tally = run(&jobs[i], sets);
         println!("{}", lines(&jobs[i], &tally, start.elapsed().as_secs_f64()));
@@ -97,9 +103,18 @@ fn run_all(groups: &[Group], sets: &[Set]) -> u64 {
         let of: Vec<&Tally> = done.iter().filter(|d| jobs[d.0].group.name == group.name).map(|d| &d.1).collect();
         let sum = |f: fn(&Tally) -> u64| of.iter().map(|t| f(t)).sum::<u64>();
         let (cases, refusals) = (sum(|t| t.cases), sum(|t| t.refusals));
-        println!("{}: {cases} comparisons in all, {refusals} refusals, {} differences", group.name, sum(|t| t.differences));
+        let mut met = Tally::default();
+        of.iter().flat_map(|t| &t.remarks).for_each(|(what, times)| met.remarks(what, *times));
+        let remarks: String = met.remarks.iter().map(|(what, times)| format!(" ({times} times: {what})")).collect();
+        println!("{}: {cases} comparisons in all, {refusals} refusals, {} differences{remarks}", group.name, sum(|t| t.differences));
     }
-    done.iter().map(|d| d.1.differences).sum()
+    (done.iter().map(|d| d.1.differences).sum(), called.into_inner().unwrap())
+}
+
+/// The functions of the groups that were asked for, as the builder names them, less those that did their work.
+fn idle(called: &BTreeSet<&str>) -> Vec<String> {
+    let names = std::env::var("ORACLE_FUNCTIONS").expect("the names of the functions");
+    names.split(',').filter(|name| !called.contains(name)).map(String::from).collect()
 }
 
 /// Lists cases of every routine of a group, over the sets in turn, and some refusals.
@@ -115,7 +130,7 @@ fn sample(groups: &[Group], sets: &[Set], group: &str, count: usize) {
         let fit: Vec<&Set> = sets.iter().filter(|s| s.p[0] <= 64 && s.p[1] <= 6 && (r.cost)(&table::Sizes::of(&s.p)) < 10_000_000).collect();
         for i in 0..count {
             let Some(set) = fit.get(i % fit.len().max(1)) else { break };
-            let (p, args) = if i % 4 == 3 { case::faulty(&mut source, r) } else { (set.p, case::good(&mut source, r, &set.p)) };
+            let (p, args) = if i % 4 == 3 { draw::faulty(&mut source, r) } else { (set.p, draw::good(&mut source, r, &set.p)) };
             if p == set.p || table::number(&p, r.slots, &args) != 0 {
                 tally.check(r, set, &p, args);
             }
@@ -133,9 +148,16 @@ fn main() {
     match args.iter().map(String::as_str).collect::<Vec<_>>()[..] {
         [] => {
             let start = std::time::Instant::now();
-            let differences = run_all(&groups, &sets);
-            println!("oracle: {differences} differences, {:.0} s", start.elapsed().as_secs_f64());
-            std::process::exit((differences != 0) as i32)
+            let (differences, called) = run_all(&groups, &sets);
+            let idle = idle(&called);
+            idle.iter().for_each(|name| println!("{name} was never seen to do its work"));
+            println!(
+                "oracle: {} groups, {} functions, {differences} differences, {:.0} s",
+                groups.len(),
+                called.len(),
+                start.elapsed().as_secs_f64()
+            );
+            std::process::exit((differences != 0 || !idle.is_empty()) as i32)
         }
         ["sample", group, count] => sample(&groups, &sets, group, count.parse().unwrap_or(10)),
         _ => {

@@ -62,6 +62,7 @@ fn of_circuit(p: &[u32; 6], slots: &[Slot], args: &[Arg]) -> u64 {
     let words = p[0] as usize + 1;
     let fits = |(slot, arg): (&Slot, &Arg)| match slot {
         Slot::Ciphers(count) | Slot::CiphersOut(count) => arg.len() == count(&circuit) * words,
+        Slot::BytesOf(count) | Slot::WordsOut(count) => arg.len() == count(&circuit),
         _ => true,
     };
     if slots.iter().zip(args).all(fits) { 0 } else { 2 }

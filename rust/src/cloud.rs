@@ -136,8 +136,7 @@ impl<'a> CloudKey<'a> {
     /// Row (i, j, k) of the switching key, n + 1 words: i below N, j below t, k below 2^basebit. Refused with 3 otherwise.
     pub fn switching_row(&self, i: usize, j: usize, k: usize) -> Result<&'a [u32], Refusal> {
         Refusal::of_answer(ffi::switching_row_answer(self.params, self.keys.switching.len(), i, j, k))?;
-        let narrow = |index: usize| u32::try_from(index).map_err(|_| Refusal::Index);
-        let row = ffi::switching_row_index(self.params, narrow(i)?, narrow(j)?, narrow(k)?);
+        let row = Refusal::of_answer(ffi::switching_row_index(self.params, i, j, k))?;
         let row = usize::try_from(row).map_err(|_| Refusal::Index)?;
         self.keys.switching.chunks_exact(self.lengths.ciphertext).nth(row).ok_or(Refusal::Index)
     }

@@ -4,7 +4,7 @@
 //! null, an empty slice's included. What is written to comes from a `&mut` slice, which no other slice of the call overlaps. Numbers may be
 //! anything: every function of the archive is proved to take any numbers and any lengths, and to touch nothing but the slices lent to
 //! it. It keeps no pointer, allocates nothing, and needs less than 64 KB of stack. What is left to trust is that the declarations below say
-//! what the archive's functions take; tests/wrapper/declarations.rs holds them against include/egl.h.
+//! what the archive's functions take; `oracle/run interface` holds them against include/egl.h, egl_c's source and the archive.
 #![allow(unsafe_code)]
 
 use crate::Params;
@@ -22,7 +22,7 @@ extern "C" {
     fn egl_key_gen_key_switching_key(n: u32, nbit: u32, bgbit: u32, l: u32, basebit: u32, t: u32, key_lv0: *const u32, key_lv0_len: usize, key_lv1: *const u32, key_lv1_len: usize, masks: *const u32, masks_len: usize, noise: *const u32, noise_len: usize, out: *mut u32, out_len: usize) -> u64;
     fn egl_trgsw_gen_bootstrapping_key(n: u32, nbit: u32, bgbit: u32, l: u32, basebit: u32, t: u32, key_lv0: *const u32, key_lv0_len: usize, key_lv1: *const u32, key_lv1_len: usize, masks: *const u32, masks_len: usize, noise: *const u32, noise_len: usize, out: *mut u32, out_len: usize) -> u64;
     fn egl_key_switching_row_answer(n: u32, nbit: u32, bgbit: u32, l: u32, basebit: u32, t: u32, words: usize, i: usize, j: usize, k: usize) -> u64;
-    fn egl_key_row_index(n: u32, nbit: u32, bgbit: u32, l: u32, basebit: u32, t: u32, i: u32, j: u32, k: u32) -> u32;
+    fn egl_key_row_index(n: u32, nbit: u32, bgbit: u32, l: u32, basebit: u32, t: u32, i: usize, j: usize, k: usize) -> u64;
 
     fn egl_gates_nand(n: u32, nbit: u32, bgbit: u32, l: u32, basebit: u32, t: u32, a: *const u32, a_len: usize, b: *const u32, b_len: usize, ksk: *const u32, ksk_len: usize, bsk: *const u32, bsk_len: usize, out: *mut u32, out_len: usize) -> u64;
     fn egl_gates_or(n: u32, nbit: u32, bgbit: u32, l: u32, basebit: u32, t: u32, a: *const u32, a_len: usize, b: *const u32, b_len: usize, ksk: *const u32, ksk_len: usize, bsk: *const u32, bsk_len: usize, out: *mut u32, out_len: usize) -> u64;
@@ -45,6 +45,11 @@ extern "C" {
     fn egl_circuit_run_plain(bytes: *const u8, bytes_len: usize, ins: *const u8, ins_len: usize, out: *mut u8, out_len: usize) -> u64;
     fn egl_circuit_run_encrypted(n: u32, nbit: u32, bgbit: u32, l: u32, basebit: u32, t: u32, ksk: *const u32, ksk_len: usize, bsk: *const u32, bsk_len: usize, bytes: *const u8, bytes_len: usize, ins: *const u32, ins_len: usize, wires: *mut u32, wires_len: usize, out: *mut u32, out_len: usize) -> u64;
     fn egl_circuit_run_gate(n: u32, nbit: u32, bgbit: u32, l: u32, basebit: u32, t: u32, ksk: *const u32, ksk_len: usize, bsk: *const u32, bsk_len: usize, bytes: *const u8, bytes_len: usize, g: usize, wires: *mut u32, wires_len: usize) -> u64;
+
+    fn egl_drift_run(n: u32, nbit: u32, bgbit: u32, l: u32, basebit: u32, t: u32, ksk: *const u32, ksk_len: usize, bsk: *const u32, bsk_len: usize, key: *const u32, key_len: usize, z: *const u32, z_len: usize, bytes: *const u8, bytes_len: usize, ins: *const u32, ins_len: usize, plain: *const u8, plain_len: usize, wires: *mut u32, wires_len: usize, out: *mut u32, out_len: usize, drifts: *mut u32, drifts_len: usize) -> u64;
+    fn egl_drift_gate(n: u32, nbit: u32, bgbit: u32, l: u32, basebit: u32, t: u32, ksk: *const u32, ksk_len: usize, bsk: *const u32, bsk_len: usize, key: *const u32, key_len: usize, z: *const u32, z_len: usize, bytes: *const u8, bytes_len: usize, g: usize, wires: *mut u32, wires_len: usize, drifts: *mut u32, drifts_len: usize) -> u64;
+    fn egl_fresh_drift(n: u32, nbit: u32, bgbit: u32, l: u32, basebit: u32, t: u32, key: *const u32, key_len: usize, c: *const u32, c_len: usize, bit: u8) -> u64;
+    fn egl_drift_inside(drift: u32) -> u32;
 }
 
 /// The two keys of a gate, as they cross.
@@ -104,6 +109,7 @@ safe! {
     switching_key = egl_key_gen_key_switching_key(key0: words, key1: words, masks: words, noise: words, out: written);
     bootstrapping_key = egl_trgsw_gen_bootstrapping_key(key0: words, key1: words, masks: words, noise: words, out: written);
     switching_row_answer = egl_key_switching_row_answer(length: usize, i: usize, j: usize, k: usize);
+    switching_row_index = egl_key_row_index(i: usize, j: usize, k: usize);
 
     nand = egl_gates_nand(a: words, b: words, key: cloud, out: written);
     or = egl_gates_or(a: words, b: words, key: cloud, out: written);
@@ -123,12 +129,16 @@ safe! {
 
     run_encrypted = egl_circuit_run_encrypted(key: cloud, circuit: bytes, ins: words, wires: written, out: written);
     run_gate = egl_circuit_run_gate(key: cloud, circuit: bytes, gate: usize, wires: written);
+
+    drift_run = egl_drift_run(key: cloud, level0: words, level1: words, circuit: bytes, ins: words, plain: bytes, wires: written, out: written, drifts: written);
+    drift_gate = egl_drift_gate(key: cloud, level0: words, level1: words, circuit: bytes, gate: usize, wires: written, drifts: written);
+    fresh_drift = egl_fresh_drift(key: words, ciphertext: words, plain: u8);
 }
 
-/// The place of a row of the switching key among its rows; a number for any indices at all.
-pub(crate) fn switching_row_index(p: Params, i: u32, j: u32, k: u32) -> u32 {
-    // SAFETY: numbers alone cross, and the function takes any.
-    unsafe { egl_key_row_index(p.n, p.nbit, p.bgbit, p.l, p.basebit, p.t, i, j, k) }
+/// Whether a drift is below an eighth of a turn in absolute value.
+pub(crate) fn drift_inside(drift: u32) -> bool {
+    // SAFETY: a number alone crosses, and the function takes any.
+    unsafe { egl_drift_inside(drift) != 0 }
 }
 
 pub(crate) fn circuit_check(bytes: &[u8]) -> u64 {

@@ -73,6 +73,15 @@ impl Kind {
         }
     }
 
+    /// How many blind rotations an encrypted run makes for it: 0 to 2.
+    pub fn rotations(self) -> usize {
+        match self {
+            Kind::False | Kind::True | Kind::Not => 0,
+            Kind::Mux => 2,
+            _ => 1,
+        }
+    }
+
     /// The bit that it computes. Operands that it does not need are not looked at.
     pub fn meaning(self, a: bool, b: bool, c: bool) -> bool {
         match self {

@@ -42,6 +42,12 @@ pub fn decrypt_message(params: Params, modulus: u64, ciphertext: &[u32], key: &[
     Refusal::of_answer(ffi::decrypt_message(params, modulus, ciphertext, key))
 }
 
+/// The drift of a ciphertext of n + 1 words that is meant to carry a bit, under a key of n words: its phase less 2^29 for true, less -2^29 for false, in
+/// 2^-32 of a turn. Refusals: 1, 2, 4.
+pub fn fresh_drift(params: Params, ciphertext: &[u32], bit: bool, key: &[u32]) -> Result<i32, Refusal> {
+    Refusal::of_answer(ffi::fresh_drift(params, key, ciphertext, u8::from(bit))).map(|drift| drift as i32)
+}
+
 /// Makes the switching key. Masks and noise are used in row order; the rows that carry nothing draw none.
 ///
 /// `level0` has n words, `level1` N; the others are `switching_masks`, `switching_noise` and `switching_key` of

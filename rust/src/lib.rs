@@ -29,6 +29,9 @@
 //!
 //! A ciphertext is a slice of n + 1 words (`u32`, each counting 2^-32 of a turn), the last of which is b.
 //!
+//! Whoever holds the secret keys can have a circuit run with its drift, how far each wire's phase is from what it carries: [`Circuit::evaluate_drift`], or
+//! [`DriftRun`] gate by gate with the margin that is left. A run that is told inside has the right outputs; that is proved, for any keys and noise.
+//!
 //! No call of this crate panics, whatever it is given. The time that drawing takes depends on what is drawn, and memory that held
 //! secret keys is not wiped.
 
@@ -38,6 +41,8 @@
 mod builder;
 mod circuit;
 mod cloud;
+mod drift;
+mod drift_run;
 mod error;
 mod ffi;
 mod gate;
@@ -54,6 +59,8 @@ pub mod sets;
 pub use builder::{Builder, Wire};
 pub use circuit::Circuit;
 pub use cloud::{CloudKey, OwnedCloudKey};
+pub use drift::{inside, margin, Drifts, Secrets};
+pub use drift_run::{DriftRun, GateDrift};
 pub use error::Error;
 pub use gate::Gate;
 pub use kind::Kind;

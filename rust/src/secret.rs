@@ -4,7 +4,7 @@ use crate::random::{fill_bits, fill_words};
 use crate::{lent, Error, Lengths, Noise, Params, Random, Refusal};
 use std::fmt;
 
-/// The secret keys of both levels. Level 0 encrypts and decrypts; level 1 serves the generation of the cloud key alone.
+/// The secret keys of both levels. Level 0 encrypts and decrypts; level 1 serves the generation of the cloud key and drift runs.
 #[derive(Clone, PartialEq, Eq)]
 pub struct SecretKeys {
     params: Params,
@@ -88,6 +88,11 @@ impl SecretKeys {
     /// The message of a ciphertext. Refusals: 2, 5.
     pub fn decrypt_message(&self, modulus: u64, ciphertext: &[u32]) -> Result<u32, Refusal> {
         lent::decrypt_message(self.params, modulus, ciphertext, &self.level0)
+    }
+
+    /// The drift of a ciphertext that is meant to carry a bit, in 2^-32 of a turn. Refused with 2 where it has not n + 1 words.
+    pub fn fresh_drift(&self, ciphertext: &[u32], bit: bool) -> Result<i32, Refusal> {
+        lent::fresh_drift(self.params, ciphertext, bit, &self.level0)
     }
 
     /// The bits of ciphertexts that stand one after another. Refused with 2 where the last one is cut short.

@@ -6,14 +6,14 @@ use borrow.Author.Tests.{eq-eqb, eqb-true, lt-ltb, ltb-true}
 use lib.Dec.{lit<}
 use Rattle.params.specs.declared.Params.{Params}
 use Rattle.params.specs.Ranges.{paramsNumber}
-use Rattle.params.specs.Sizes.{size, bitWords}
+use Rattle.params.specs.Sizes.{size, bootstrappingWords}
 use Rattle.params.proofs.Answers.{passed}
 use Rattle.blind_rotation.specs.Refusals.{stepNumber, blindNumber}
 
 -- what holds of a step that is not refused
 pub record StepGood (p : Params) (lk i la lb : ℕ) : Type 0 where
   pub range : paramsNumber p ≡ 0
-  pub key : lk ≡ p .n * bitWords p
+  pub key : lk ≡ bootstrappingWords p
   pub first : la ≡ size p
   pub second : lb ≡ size p
   pub index : i < p .n
@@ -33,13 +33,13 @@ module _ (p : Params) (lk i la lb : ℕ) where
   pub step-done : StepGood p lk i la lb → stepNumber p lk i la lb ≡ 0
   unfolding stepNumber
   step-done g =
-      simp (eq-eqb (paramsNumber p) 0 (g .range), eq-eqb lk (p .n * bitWords p) (g .key), eq-eqb la (size p) (g .first), eq-eqb lb (size p) (g .second), lt-ltb i (p .n) (g .index))
+      simp (eq-eqb (paramsNumber p) 0 (g .range), eq-eqb lk (bootstrappingWords p) (g .key), eq-eqb la (size p) (g .first), eq-eqb lb (size p) (g .second), lt-ltb i (p .n) (g .index))
 
 -- what holds of a rotation that is not refused
 pub record BlindGood (p : Params) (ls lk la lb : ℕ) : Type 0 where
   pub range : paramsNumber p ≡ 0
   pub source : ls ≡ p .n + 1
-  pub key : lk ≡ p .n * bitWords p
+  pub key : lk ≡ bootstrappingWords p
   pub first : la ≡ size p
   pub second : lb ≡ size p
 
@@ -58,4 +58,4 @@ module _ (p : Params) (ls lk la lb : ℕ) where
   pub blind-done : BlindGood p ls lk la lb → blindNumber p ls lk la lb ≡ 0
   unfolding blindNumber
   blind-done g =
-      simp (eq-eqb (paramsNumber p) 0 (g .range), eq-eqb ls (p .n + 1) (g .source), eq-eqb lk (p .n * bitWords p) (g .key), eq-eqb la (size p) (g .first), eq-eqb lb (size p) (g .second))
+      simp (eq-eqb (paramsNumber p) 0 (g .range), eq-eqb ls (p .n + 1) (g .source), eq-eqb lk (bootstrappingWords p) (g .key), eq-eqb la (size p) (g .first), eq-eqb lb (size p) (g .second))

@@ -1,25 +1,11 @@
--- What a contract allows is determined by it: two outcomes of one call coincide (01, 'What the contracts owe').
+-- Two outcomes that a contract of this crate allows coincide: of the contract itself, as `rattle` reads it from the code, for every public routine (01, 'What the contracts owe').
 -- Assumes nothing.
-use mathlib.Core.Path.{_≡_}
-use mathlib.Core.List.{List}
-use Prim.Native.Nat.{ℕ}
-use lib.ListN.{length}
-use Rattle.params.specs.declared.Params.{Params}
-use Rattle.params.specs.declared.Answer.{Answer}
-use Rattle.params.specs.Refusal.{answer}
-use Rattle.params.proofs.Answers.{coincide}
-use Rattle.decomposition.specs.Pair.{Pair}
-use Rattle.blind_rotation.specs.Refusals.{stepNumber, stepOut, blindNumber, blindOut}
+use Rattle.ring.proofs.Outcomes.{Determined, said-written-twice}
+use Rattle.blind_rotation.proofs.blind_rotate_step as blind-rotate-step
+use Rattle.blind_rotation.proofs.blind_rotate as blind-rotate
 
-module _ (p : Params) (key : List ℕ) (x : Pair) {n n′ : Answer} {u u′ v v′ : List ℕ} where
-  pub blind-rotate-step-determined : (i mask : ℕ)
-      → n ≡ answer (stepNumber p (length key) i (length (x .a)) (length (x .b))) → n′ ≡ answer (stepNumber p (length key) i (length (x .a)) (length (x .b)))
-      → u ≡ stepOut p key i mask x .a → u′ ≡ stepOut p key i mask x .a → v ≡ stepOut p key i mask x .b → v′ ≡ stepOut p key i mask x .b
-      → (n ≡ n′) × (u ≡ u′) × (v ≡ v′)
-  blind-rotate-step-determined i mask e e′ f f′ g g′ = (coincide e e′, coincide f f′, coincide g g′)
+pub blind-rotate-step-determined : Determined blind-rotate-step.ended blind-rotate-step.Reads.Learnt
+blind-rotate-step-determined κs a x y v w = said-written-twice 4
 
-  pub blind-rotate-determined : (src : List ℕ)
-      → n ≡ answer (blindNumber p (length src) (length key) (length (x .a)) (length (x .b))) → n′ ≡ answer (blindNumber p (length src) (length key) (length (x .a)) (length (x .b)))
-      → u ≡ blindOut p src key x .a → u′ ≡ blindOut p src key x .a → v ≡ blindOut p src key x .b → v′ ≡ blindOut p src key x .b
-      → (n ≡ n′) × (u ≡ u′) × (v ≡ v′)
-  blind-rotate-determined src e e′ f f′ g g′ = (coincide e e′, coincide f f′, coincide g g′)
+pub blind-rotate-determined : Determined blind-rotate.ended blind-rotate.Reads.Learnt
+blind-rotate-determined κs a x y v w = said-written-twice 3

@@ -1,5 +1,7 @@
 pub mod Checks
 pub mod Steps
+pub mod Calls
+pub mod Examples
 pub mod Phase
 pub mod Turn
 pub mod Identity

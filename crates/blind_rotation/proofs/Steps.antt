@@ -1,30 +1,27 @@
 -- What the callees leave makes a step, and steps make the rotation: each law is the definition's next line.
 -- Assumes nothing.
 use mathlib.Core.Path.{_≡_, refl, ap, ap₂, _∙_}
-use mathlib.Core.List.{List}
+use mathlib.Core.List.{List, []}
 use Prim.Native.Nat.{ℕ, _+_, _-_, _*_, _≤_, _<_}
-use native.Mathlib.Nat.{add-sub-cancel-left, mul-le-mul-right}
 use native.Mathlib.Numerals.{add-one}
-use native.Mathlib.Omega.{arith}
-use lib.ListN.{length, take, drop}
+use lib.ListN.{length}
 use Rattle.ring.specs.Word.{at}
 use Rattle.ring.specs.Poly.{plus, minus}
 use Rattle.ring.specs.Turn.{rotated}
 use Rattle.params.specs.declared.Params.{Params}
-use Rattle.params.specs.declared.Sizes.{Sizes}
 use Rattle.params.specs.Refusal.{ifDone}
 use Rattle.params.specs.Ranges.{paramsNumber}
-use Rattle.params.specs.Sizes.{size, bitWords, sizesOf}
+use Rattle.params.specs.Sizes.{size, bitWords, bootstrappingWords}
 use Rattle.params.proofs.Answers.{when-done}
-use Rattle.params.proofs.Ranges.{sizes-good}
 use Rattle.key.specs.Testvec.{testNumber, testA, testB}
-use Rattle.key.proofs.Checks.{test-done}
+use Rattle.key.specs.Bits.{bitRowsNumber}
+use Rattle.key.proofs.Checks.{test-done, bit-done}
 use Rattle.product.proofs.Uses.{length-minus}
 use Rattle.decomposition.specs.Pair.{Pair}
 use Rattle.rotation.specs.declared.Rounded.{Rounded}
 use Rattle.rotation.specs.Amount.{maskAmount, bodyAmount, roundedTo}
 use Rattle.rotation.proofs.Amounts.{rounded-done}
-use Rattle.trgsw.specs.External.{part, pairPlus, pairMinus, external, cmuxOf}
+use Rattle.trgsw.specs.External.{pairPlus, pairMinus, external, cmuxOf}
 use Rattle.trgsw.specs.Refusals.{externalNumber, externalAddOut}
 use Rattle.trgsw.proofs.Checks.{external-done}
 use Rattle.blind_rotation.specs.Blind.{turned, bitRows, blindStep, stepsTo, startOf, testPair}
@@ -38,18 +35,10 @@ module _ (p : Params) where
   pub amount-is : (k : ℕ) → paramsNumber p ≡ 0 → {r : Rounded} → r ≡ roundedTo p k → r .amount .0 ≡ k
   amount-is k z e = ap (λ (r : Rounded). r .amount .0) (e ∙ rounded-done p k z)
 
-  -- one bit's words, from the record of lengths
-  pub bit-is : paramsNumber p ≡ 0 → {s : Sizes} → s ≡ sizesOf p → s .bit ≡ bitWords p
-  bit-is z e = ap (λ (s : Sizes). s .bit) (e ∙ sizes-good p z)
-
-  -- the rows of bit i lie in the key
-  pub bit-fits : (i m : ℕ) {len : ℕ} → i < p .n → m ≡ bitWords p → len ≡ p .n * bitWords p → i * m + m ≤ len
-  bit-fits i m h e l = let q : p .n * m ≡ p .n * bitWords p = ap (λ (k : ℕ). p .n * k) e in omega (arith, mul-le-mul-right m h)
-
-  -- the part that the code takes is the rows of bit i
-  pub rows-is : (key : List ℕ) (i m : ℕ) → m ≡ bitWords p → take (i * m + m - i * m) (drop (i * m) key) ≡ bitRows p key i
-  unfolding bitRows part
-  rows-is key i m e = ap (λ (k : ℕ). take k (drop (i * m) key)) (add-sub-cancel-left (i * m) m) ∙ ap (λ (k : ℕ). take k (drop (i * k) key)) e
+  -- the rows that the lookup hands back: it is not refused, so they are those of bit i
+  pub rows-is : paramsNumber p ≡ 0 → (key : List ℕ) (i : ℕ) → length key ≡ bootstrappingWords p → i < p .n
+      → {rows : List ℕ} → rows ≡ ifDone (bitRowsNumber p (length key) i) (bitRows p key i) [] → rows ≡ bitRows p key i
+  rows-is z key i l h e = e ∙ when-done _ _ _ (bit-done p (length key) i z l h)
 
   -- the external product of the turned pair less the pair, added to the pair, is the choice
   pub step-made : paramsNumber p ≡ 0 → (rows : List ℕ) (k : ℕ) (x w : Pair) → length rows ≡ bitWords p → length (x .a) ≡ size p → length (x .b) ≡ size p

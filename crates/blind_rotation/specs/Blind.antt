@@ -1,22 +1,19 @@
 -- Blind rotation (TFHE paper, Algorithm 3; 01, trgsw): the accumulator after each step, and the whole.
 use mathlib.Core.List.{List}
-use Prim.Native.Nat.{ℕ, zero, suc, _*_}
+use Prim.Native.Nat.{ℕ, zero, suc}
 use Rattle.ring.specs.Word.{at}
 use Rattle.ring.specs.Turn.{rotated}
 use Rattle.params.specs.declared.Params.{Params}
-use Rattle.params.specs.Sizes.{size, bitWords}
+use Rattle.params.specs.Sizes.{size}
 use Rattle.key.specs.Testvec.{testA, testB}
+unfoldable pub use Rattle.key.specs.Bits.{bitRows}
 use Rattle.rotation.specs.Amount.{maskAmount, bodyAmount}
 use Rattle.decomposition.specs.Pair.{Pair}
-use Rattle.trgsw.specs.External.{part, cmuxOf}
+use Rattle.trgsw.specs.External.{cmuxOf}
 
 -- A pair turned by k: both of its polynomials rotated, as the Rust rotates (01, trgsw: complemented, not negated).
 unfoldable pub turned : Params → ℕ → Pair → Pair
 turned p k x = record { a = rotated (size p) k (x .a); b = rotated (size p) k (x .b) }
-
--- The rows of key bit i in the bootstrapping key (01, key: per level-0 key bit, 2L rows).
-unfoldable pub bitRows : Params → List ℕ → ℕ → List ℕ
-bitRows p key i = part (bitWords p) (i * bitWords p) key
 
 -- The accumulator after step i, which had x: x, or x turned by the mask's amount, as key bit i chooses.
 unfoldable pub blindStep : Params → List ℕ → ℕ → ℕ → Pair → Pair

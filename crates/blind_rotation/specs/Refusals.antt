@@ -6,7 +6,7 @@ use lib.ListN.{length}
 use Rattle.params.specs.declared.Params.{Params}
 use Rattle.params.specs.Refusal.{check, ifDone}
 use Rattle.params.specs.Ranges.{paramsNumber}
-use Rattle.params.specs.Sizes.{size, bitWords}
+use Rattle.params.specs.Sizes.{size, bootstrappingWords}
 use Rattle.decomposition.specs.Pair.{Pair}
 use Rattle.blind_rotation.specs.Blind.{blindStep, blindRotated, testPair}
 
@@ -14,7 +14,7 @@ use Rattle.blind_rotation.specs.Blind.{blindStep, blindRotated, testPair
 unfoldable pub stepNumber : Params → ℕ → ℕ → ℕ → ℕ → ℕ
 stepNumber p lk i la lb =
     check (eqb (paramsNumber p) 0) 1
-    (check (eqb lk (p .n * bitWords p)) 2
+    (check (eqb lk (bootstrappingWords p)) 2
     (check (eqb la (size p)) 2
     (check (eqb lb (size p)) 2
     (check (ltb i (p .n)) 3
@@ -29,7 +29,7 @@ unfoldable pub blindNumber : Params → ℕ → ℕ → ℕ → ℕ → ℕ
 blindNumber p ls lk la lb =
     check (eqb (paramsNumber p) 0) 1
     (check (eqb ls (p .n + 1)) 2
-    (check (eqb lk (p .n * bitWords p)) 2
+    (check (eqb lk (bootstrappingWords p)) 2
     (check (eqb la (size p)) 2
     (check (eqb lb (size p)) 2
     0))))

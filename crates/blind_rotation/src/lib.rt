@@ -5,7 +5,7 @@ ghost use lib.ListN.{length};
 ghost use Rattle.ring.specs.Poly.{minus};
 ghost use Rattle.params.specs.Refusal.{answer};
 ghost use Rattle.params.specs.Ranges.{paramsNumber};
-ghost use Rattle.params.specs.Sizes.{size, bitWords};
+ghost use Rattle.params.specs.Sizes.{size, bitWords, bootstrappingWords};
 ghost use Rattle.trgsw.specs.External.{cmuxOf};
 ghost use Rattle.blind_rotation.specs.Blind.{turned, blindStep, stepsTo, blindRotated, testPair};
 ghost use Rattle.blind_rotation.specs.Refusals.{stepNumber, stepOut, blindNumber, blindOut};
@@ -61,17 +61,14 @@ fn step_at(
     b: &mut [u32],
 )
     requires { ⌜ paramsNumber p ≡ 0 ⌝ }
-    requires { ⌜ (i < p .n) × (length (now key) ≡ p .n * bitWords p) × (length (now ta) ≡ size p) × (length (now tb) ≡ size p) × (length (now a) ≡ size p) × (length (now b) ≡ size p) ⌝ }
+    requires { ⌜ (i < p .n) × (length (now key) ≡ bootstrappingWords p) × (length (now ta) ≡ size p) × (length (now tb) ≡ size p) × (length (now a) ≡ size p) × (length (now b) ≡ size p) ⌝ }
     ensures { λ _. ⌜ now (a .exit) ≡ blindStep p (now (key .entry)) i (mask .0) (record { a = now (a .entry); b = now (b .entry) }) .a ⌝ }
     ensures { λ _. ⌜ now (b .exit) ≡ blindStep p (now (key .entry)) i (mask .0) (record { a = now (a .entry); b = now (b .entry) }) .b ⌝ }
 {
     let rounded = rotation::mask_amount(p, mask);
     let k = rounded.amount;
-    let s = params::sizes_of(p);
-    let bit = s.bit;
-    let from = i * bit;
-    let end = from + bit;
-    step_by(p, &key[from..end], k, ta, tb, a, b);
+    let rows = key::bit_rows(p, key, i);
+    step_by(p, rows, k, ta, tb, a, b);
 }
 
 // All n steps.
@@ -85,7 +82,7 @@ fn all_steps(
     b: &mut [u32],
 )
     requires { ⌜ paramsNumber p ≡ 0 ⌝ }
-    requires { ⌜ (length (now src) ≡ p .n + 1) × (length (now key) ≡ p .n * bitWords p) × (length (now ta) ≡ size p) × (length (now tb) ≡ size p) × (length (now a) ≡ size p) × (length (now b) ≡ size p) ⌝ }
+    requires { ⌜ (length (now src) ≡ p .n + 1) × (length (now key) ≡ bootstrappingWords p) × (length (now ta) ≡ size p) × (length (now tb) ≡ size p) × (length (now a) ≡ size p) × (length (now b) ≡ size p) ⌝ }
     ensures { λ _. ⌜ now (a .exit) ≡ stepsTo p (now (key .entry)) (now (src .entry)) (record { a = now (a .entry); b = now (b .entry) }) (p .n) .a ⌝ }
     ensures { λ _. ⌜ now (b .exit) ≡ stepsTo p (now (key .entry)) (now (src .entry)) (record { a = now (a .entry); b = now (b .entry) }) (p .n) .b ⌝ }
 {
@@ -108,7 +105,7 @@ fn rotate_from(
     b: &mut [u32],
 )
     requires { ⌜ paramsNumber p ≡ 0 ⌝ }
-    requires { ⌜ (length (now src) ≡ p .n + 1) × (length (now key) ≡ p .n * bitWords p) × (length (now ta) ≡ size p) × (length (now tb) ≡ size p) × (length (now a) ≡ size p) × (length (now b) ≡ size p) ⌝ }
+    requires { ⌜ (length (now src) ≡ p .n + 1) × (length (now key) ≡ bootstrappingWords p) × (length (now ta) ≡ size p) × (length (now tb) ≡ size p) × (length (now a) ≡ size p) × (length (now b) ≡ size p) ⌝ }
     ensures { λ _. ⌜ now (a .exit) ≡ blindRotated p (now (key .entry)) (now (src .entry)) (record { a = now (ta .entry); b = now (tb .entry) }) .a ⌝ }
     ensures { λ _. ⌜ now (b .exit) ≡ blindRotated p (now (key .entry)) (now (src .entry)) (record { a = now (ta .entry); b = now (tb .entry) }) .b ⌝ }
 {
@@ -131,7 +128,7 @@ fn rotate_test(
     b: &mut [u32],
 )
     requires { ⌜ paramsNumber p ≡ 0 ⌝ }
-    requires { ⌜ (length (now src) ≡ p .n + 1) × (length (now key) ≡ p .n * bitWords p) × (length (now ta) ≡ size p) × (length (now tb) ≡ size p) × (length (now a) ≡ size p) × (length (now b) ≡ size p) ⌝ }
+    requires { ⌜ (length (now src) ≡ p .n + 1) × (length (now key) ≡ bootstrappingWords p) × (length (now ta) ≡ size p) × (length (now tb) ≡ size p) × (length (now a) ≡ size p) × (length (now b) ≡ size p) ⌝ }
     ensures { λ _. ⌜ now (a .exit) ≡ blindRotated p (now (key .entry)) (now (src .entry)) (testPair p) .a ⌝ }
     ensures { λ _. ⌜ now (b .exit) ≡ blindRotated p (now (key .entry)) (now (src .entry)) (testPair p) .b ⌝ }
 {
@@ -143,7 +140,7 @@ fn rotate_test(
 // 20 KB of stack for its scratch.
 fn put_rotated(p: Params, src: &[u32], key: &[u32], a: &mut [u32], b: &mut [u32])
     requires { ⌜ paramsNumber p ≡ 0 ⌝ }
-    requires { ⌜ (length (now src) ≡ p .n + 1) × (length (now key) ≡ p .n * bitWords p) × (length (now a) ≡ size p) × (length (now b) ≡ size p) ⌝ }
+    requires { ⌜ (length (now src) ≡ p .n + 1) × (length (now key) ≡ bootstrappingWords p) × (length (now a) ≡ size p) × (length (now b) ≡ size p) ⌝ }
     ensures { λ _. ⌜ now (a .exit) ≡ blindRotated p (now (key .entry)) (now (src .entry)) (testPair p) .a ⌝ }
     ensures { λ _. ⌜ now (b .exit) ≡ blindRotated p (now (key .entry)) (now (src .entry)) (testPair p) .b ⌝ }
 {
@@ -156,7 +153,7 @@ fn put_rotated(p: Params, src: &[u32], key: &[u32], a: &mut [u32], b: &mut [u32]
 // Step i with scratch of its own.
 fn put_step(p: Params, key: &[u32], i: usize, mask: Torus, a: &mut [u32], b: &mut [u32])
     requires { ⌜ paramsNumber p ≡ 0 ⌝ }
-    requires { ⌜ (i < p .n) × (length (now key) ≡ p .n * bitWords p) × (length (now a) ≡ size p) × (length (now b) ≡ size p) ⌝ }
+    requires { ⌜ (i < p .n) × (length (now key) ≡ bootstrappingWords p) × (length (now a) ≡ size p) × (length (now b) ≡ size p) ⌝ }
     ensures { λ _. ⌜ now (a .exit) ≡ blindStep p (now (key .entry)) i (mask .0) (record { a = now (a .entry); b = now (b .entry) }) .a ⌝ }
     ensures { λ _. ⌜ now (b .exit) ≡ blindStep p (now (key .entry)) i (mask .0) (record { a = now (a .entry); b = now (b .entry) }) .b ⌝ }
 {

@@ -10,7 +10,7 @@ use lib.ListN.{length}
 use Rattle.params.specs.declared.Params.{Params}
 use Rattle.params.specs.declared.Sizes.{Sizes}
 use Rattle.params.specs.Ranges.{paramsNumber, InRange}
-use Rattle.params.specs.Sizes.{size, bitWords, sizesOf}
+use Rattle.params.specs.Sizes.{size, bitWords, sizesOf, bootstrappingWords}
 use Rattle.params.proofs.Answers.{passed}
 use Rattle.params.proofs.Ranges.{in-range}
 use Rattle.tlwe.specs.Key.{binary}
@@ -28,7 +28,7 @@ module _ (p : Params) {s : Sizes} (e : s ≡ sizesOf p) (z : s .number ≡ 0) wh
   pub all-draws-of : s .bskmasks ≡ p .n * bitDraws p
   all-draws-of = ap (λ (x : Sizes). x .bskmasks) (lengths p e z)
 
-  pub all-of : s .bsk ≡ p .n * bitWords p
+  pub all-of : s .bsk ≡ bootstrappingWords p
   all-of = ap (λ (x : Sizes). x .bsk) (lengths p e z)
 
 -- ---- one bit
@@ -73,7 +73,7 @@ pub record BootstrappingGood (p : Params) (key z : List ℕ) (masks noise out : 
   pub z-length : length z ≡ size p
   pub masks-length : masks ≡ p .n * bitDraws p
   pub noise-length : noise ≡ p .n * bitDraws p
-  pub rows : out ≡ p .n * bitWords p
+  pub rows : out ≡ bootstrappingWords p
   pub key-binary : binary key ≡ true
   pub z-binary : binary z ≡ true
 

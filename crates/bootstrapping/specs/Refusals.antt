@@ -6,7 +6,7 @@ use lib.ListN.{length}
 use Rattle.params.specs.declared.Params.{Params}
 use Rattle.params.specs.Refusal.{check}
 use Rattle.params.specs.Ranges.{paramsNumber}
-use Rattle.params.specs.Sizes.{size, bitWords}
+use Rattle.params.specs.Sizes.{size, bitWords, bootstrappingWords}
 use Rattle.tlwe.specs.Key.{binary}
 use Rattle.bootstrapping.specs.Rows.{bitDraws}
 
@@ -29,7 +29,7 @@ bootstrappingNumber p key z masks noise out =
     (check (eqb (length z) (size p)) 2
     (check (eqb masks (p .n * bitDraws p)) 2
     (check (eqb noise (p .n * bitDraws p)) 2
-    (check (eqb out (p .n * bitWords p)) 2
+    (check (eqb out (bootstrappingWords p)) 2
     (check (binary key) 4
     (check (binary z) 4
     0)))))))

@@ -10,6 +10,7 @@ mod rows;
 
 use params::Answer;
 use params::Params;
+use utils::Torus;
 
 // The refusal of `encrypt_torus`: the parameters, every length, then the key.
 fn torus_number(p: Params, masks: usize, noise: usize, key: &[u32], out: usize) -> u32
@@ -41,20 +42,20 @@ fn torus_number(p: Params, masks: usize, noise: usize, key: &[u32], out: usize) 
 // Refusals: 1, 2, 4.
 pub fn encrypt_torus(
     p: Params,
-    m: u32,
+    m: Torus,
     masks: &[u32],
     noise: &[u32],
     key_lv1: &[u32],
     out: &mut [u32],
 ) -> Answer
     ensures said { λ r. ⌜ r ≡ answer (torusNumber p (length (now (masks .entry))) (length (now (noise .entry))) (now («key_lv1» .entry)) (length (now (out .entry)))) ⌝ }
-    ensures written { λ r. ⌜ now (out .exit) ≡ ifDone (torusNumber p (length (now (masks .entry))) (length (now (noise .entry))) (now («key_lv1» .entry)) (length (now (out .entry)))) (torusRows p m (now («key_lv1» .entry)) (now (masks .entry)) (now (noise .entry))) (now (out .entry)) ⌝ }
+    ensures written { λ r. ⌜ now (out .exit) ≡ ifDone (torusNumber p (length (now (masks .entry))) (length (now (noise .entry))) (now («key_lv1» .entry)) (length (now (out .entry)))) (torusRows p (m .0) (now («key_lv1» .entry)) (now (masks .entry)) (now (noise .entry))) (now (out .entry)) ⌝ }
 {
     let number = torus_number(p, masks.len(), noise.len(), key_lv1, out.len());
     if number != 0 {
         return Answer { number, place: 0 };
     }
-    rows::rows_into(p, m, masks, noise, key_lv1, out);
+    rows::rows_into(p, m.0, masks, noise, key_lv1, out);
     Answer {
         number: 0,
         place: 0,

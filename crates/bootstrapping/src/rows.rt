@@ -6,7 +6,7 @@ ghost use lib.ListN.{length};
 ghost use Rattle.ring.specs.Word.{Q};
 ghost use Rattle.ring.specs.Poly.{plus, times};
 ghost use Rattle.params.specs.Ranges.{InRange};
-ghost use Rattle.params.specs.Sizes.{size, bitWords};
+ghost use Rattle.params.specs.Sizes.{size, bitWords, bootstrappingWords};
 ghost use Rattle.bootstrapping.specs.Rows.{maskMessage, bodyMessage, rowOf, torusRows, bitDraws, bootstrappingKey};
 use params::Params;
 
@@ -137,7 +137,7 @@ pub(crate) fn bits_into(
     noise: &[u32],
     out: &mut [u32],
 )
-    requires { ⌜ InRange p × (length (now «key_lv0») ≡ p .n) × (length (now «key_lv1») ≡ size p) × (length (now masks) ≡ p .n * bitDraws p) × (length (now noise) ≡ p .n * bitDraws p) × (length (now out) ≡ p .n * bitWords p) ⌝ }
+    requires { ⌜ InRange p × (length (now «key_lv0») ≡ p .n) × (length (now «key_lv1») ≡ size p) × (length (now masks) ≡ p .n * bitDraws p) × (length (now noise) ≡ p .n * bitDraws p) × (length (now out) ≡ bootstrappingWords p) ⌝ }
     ensures { λ _. ⌜ now (out .exit) ≡ bootstrappingKey p (now («key_lv0» .entry)) (now («key_lv1» .entry)) (now (masks .entry)) (now (noise .entry)) ⌝ }
 {
     let rows = (p.l + p.l) as usize;

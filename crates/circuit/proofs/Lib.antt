@@ -5,5 +5,6 @@ pub mod Steps
 pub mod Accept
 pub mod Wires
 pub mod Laws
+pub mod Longest
 pub mod Examples
 pub mod Determined

@@ -58,6 +58,10 @@ outputPlace bs o = gatePlace (gates bs) + 2 * o
 abbrev pub outputAt : List ℕ → ℕ → ℕ
 outputAt bs o = fieldAt bs (outputPlace bs o)
 
+-- How many bytes the longest circuit has: 1,024 gates and 64 outputs.
+abbrev pub longest : ℕ
+longest = gatePlace 1024 + 2 * 64
+
 -- ---- the answer
 
 -- A refusal, and the place of the field at fault.

@@ -2,3 +2,4 @@ pub mod Kinds
 pub mod Form
 pub mod Valid
 pub mod Plain
+pub mod Told

@@ -10,7 +10,7 @@ ghost use Rattle.circuit.specs.Form.{gates};
 ghost use Rattle.circuit.specs.Plain.{workOf, workAnswer};
 
 // The sum over the gates.
-fn total(bytes: &[u8]) -> u32
+pub(crate) fn total(bytes: &[u8]) -> u32
     ensures { λ r. ⌜ r ≡ workOf (now (bytes .entry)) ⌝ }
 {
     let n = field(bytes, 7);

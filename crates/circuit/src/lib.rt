@@ -4,6 +4,7 @@ mod fields;
 mod form;
 mod kinds;
 mod plain;
+mod words;
 
 pub use cost::work;
 pub use fields::counts;
@@ -12,6 +13,7 @@ pub use fields::operand_at;
 pub use fields::output_at;
 pub use form::check;
 pub use plain::run_plain;
+pub use words::tell;
 
 // The answer, and the work of the circuit, 0 where refused.
 pub struct Worked {

@@ -7,29 +7,17 @@ use lib.Dec.{lit<}
 use Rattle.params.specs.declared.Params.{Params}
 use Rattle.params.specs.Ranges.{paramsNumber}
 use Rattle.params.specs.Sizes.{size}
-use Rattle.params.proofs.Answers.{passed, when-done}
+use Rattle.params.proofs.Answers.{passed}
 use Rattle.key.specs.declared.Offset.{Offset}
 use Rattle.key.specs.Offset.{offset, offsetOut}
-use Rattle.decomposition.specs.Digit.{digitNumber}
+use Rattle.key.proofs.Checks.{offset-done}
 use Rattle.decomposition.specs.Pair.{polynomialNumber, decompositionNumber}
 
 -- the value beside an answer of 0
-pub offset-value : (p : Params) → paramsNumber p ≡ 0 → {o : Offset} → o ≡ offsetOut p → o .value ≡ offset p
-unfolding offsetOut
-offset-value p z e = ap (λ (o : Offset). o .value) e ∙ when-done (paramsNumber p) (offset p) 0 z
+pub offset-value : (p : Params) → paramsNumber p ≡ 0 → {o : Offset} → o ≡ offsetOut p → o .value .0 ≡ offset p
+offset-value p z e = ap (λ (o : Offset). o .value .0) e ∙ offset-done p z
 
 -- ---- what holds of a call that is not refused
-
-pub record DigitGood (p : Params) (i : ℕ) : Type 0 where
-  pub range : paramsNumber p ≡ 0
-  pub index : i < p .l
-
-pub digit-good : (p : Params) (i : ℕ) → digitNumber p i ≡ 0 → DigitGood p i
-unfolding digitNumber
-digit-good p i e =
-    let s1 = passed _ _ _ (lit< tt) e in
-    let s2 = passed _ _ _ (lit< tt) (s1 .1) in
-    record { range = eqb-true _ _ (s1 .0); index = ltb-true _ _ (s2 .0) }
 
 pub record PolynomialGood (p : Params) (la lb r lo : ℕ) : Type 0 where
   pub range : paramsNumber p ≡ 0

@@ -3,12 +3,8 @@ use mathlib.Core.List.{List}
 use Prim.Native.Nat.{ℕ, _+_, _-_, _*_, _/_, _%_, _^_}
 use Rattle.ring.specs.Word.{Q, at, neg}
 use Rattle.ring.specs.Sums.{tab}
-use lib.Dec.{eqb, ltb}
 use Rattle.params.specs.declared.Params.{Params}
-use Rattle.params.specs.Refusal.{check, answer, ifDone}
-use Rattle.params.specs.Ranges.{paramsNumber}
 use Rattle.params.specs.Sizes.{size}
-use Rattle.decomposition.specs.declared.WordDigit.{WordDigit}
 use Rattle.key.specs.Offset.{offset}
 
 -- Field i from the top, of w bits, of a word.
@@ -34,11 +30,3 @@ cleared p x = x / 2 ^ (32 - p .l * p .bgbit) * 2 ^ (32 - p .l * p .bgbit)
 -- Each coefficient of a with its low bits cleared.
 unfoldable pub clearedPoly : Params → List ℕ → List ℕ
 clearedPoly p a = tab (size p) (λ x. cleared p (at a x))
-
--- The refusals of `digit` at the index i: 1, then 3 unless i is below L.
-unfoldable pub digitNumber : Params → ℕ → ℕ
-digitNumber p i = check (eqb (paramsNumber p) 0) 1 (check (ltb i (p .l)) 3 0)
-
--- What `digit` hands back: the refusal with the digit 0, or digit i of x.
-unfoldable pub digitOut : Params → ℕ → ℕ → WordDigit
-digitOut p x i = record { answer = answer (digitNumber p i); value = ifDone (digitNumber p i) (digitOf p x i) 0 }

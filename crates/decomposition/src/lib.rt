@@ -6,17 +6,10 @@ ghost use Rattle.params.specs.Refusal.{answer};
 ghost use Rattle.params.specs.Ranges.{InRange};
 ghost use Rattle.params.specs.Sizes.{size};
 ghost use Rattle.key.specs.Offset.{offset};
-ghost use Rattle.decomposition.specs.Digit.{digitOf, digitPoly, digitNumber, digitOut};
+ghost use Rattle.decomposition.specs.Digit.{digitOf, digitPoly};
 ghost use Rattle.decomposition.specs.Pair.{pairDigit, decomposed, polynomialNumber, polynomialOut, decompositionNumber, decompositionOut};
 use params::Answer;
 use params::Params;
-use utils::Torus;
-
-// The answer, and the digit beside it: 0 where refused.
-pub struct WordDigit {
-    pub answer: Answer,
-    pub value: u32,
-}
 
 // 2^s.
 fn pow2(s: u32) -> u32
@@ -84,41 +77,6 @@ fn decompose_into(p: Params, off: u32, a: &[u32], b: &[u32], out: &mut [u32])
     }
 }
 
-// The refusal of `digit`, or 0.
-fn digit_number(p: Params, i: u32) -> u32
-    ensures { λ r. ⌜ r ≡ digitNumber p i ⌝ }
-{
-    if params::number(p) != 0 {
-        return 1;
-    }
-    if p.l <= i {
-        return 3;
-    }
-    0
-}
-
-// Digit i of the word x, from the top; i is below L. Refusals: 1, 3.
-pub fn digit(p: Params, x: Torus, i: u32) -> WordDigit
-    ensures { λ r. ⌜ r ≡ digitOut p (x .0) i ⌝ }
-{
-    let number = digit_number(p, i);
-    let word = x.0;
-    if number != 0 {
-        return WordDigit {
-            answer: Answer { number, place: 0 },
-            value: 0,
-        };
-    }
-    let off = key::decomposition_offset(p);
-    WordDigit {
-        answer: Answer {
-            number: 0,
-            place: 0,
-        },
-        value: digit_word(p, off.value, word, i),
-    }
-}
-
 // The refusal of `digit_polynomial`, or 0.
 fn polynomial_number(p: Params, la: usize, lb: usize, r: u32, lo: usize) -> u32
     ensures { λ number. ⌜ number ≡ polynomialNumber p la lb r lo ⌝ }
@@ -149,8 +107,9 @@ pub fn digit_polynomial(p: Params, a: &[u32], b: &[u32], r: u32, out: &mut [u32]
 {
     let number = polynomial_number(p, a.len(), b.len(), r, out.len());
     if number == 0 {
-        let off = key::decomposition_offset(p);
-        pair_digits_into(p, off.value, a, b, r, out);
+        let found = key::decomposition_offset(p);
+        let off = found.value;
+        pair_digits_into(p, off.0, a, b, r, out);
     }
     Answer { number, place: 0 }
 }
@@ -182,8 +141,9 @@ pub fn decomposition(p: Params, a: &[u32], b: &[u32], out: &mut [u32]) -> Answer
 {
     let number = decomposition_number(p, a.len(), b.len(), out.len());
     if number == 0 {
-        let off = key::decomposition_offset(p);
-        decompose_into(p, off.value, a, b, out);
+        let found = key::decomposition_offset(p);
+        let off = found.value;
+        decompose_into(p, off.0, a, b, out);
     }
     Answer { number, place: 0 }
 }

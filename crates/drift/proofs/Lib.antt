@@ -1,4 +1,17 @@
 pub mod Track
 pub mod Round
 pub mod Phases
+pub mod Sides
 pub mod Meaning
+pub mod Ways
+pub mod Short
+pub mod Circuits
+pub mod Passes
+pub mod Residues
+pub mod Parts
+pub mod Suffice
+pub mod Lists
+pub mod Demand
+pub mod Examples
+pub mod CircuitExamples
+pub mod Worst

@@ -25,13 +25,13 @@ use Rattle.tlwe.proofs.Phases.{phase-combine, phase-add, phase-neg}
 use Rattle.gates.specs.declared.Kind.{Kind}
 use Rattle.gates.specs.Kind.{weightsOf, eighth, sumOf}
 use Rattle.gates.specs.Sum.{lastWord, summed, muxSum, constantWord, constantOf}
-use Rattle.drift.specs.Drift.{roundingDrift, broughtIn}
+use Rattle.drift.specs.Words.{roundingWord, broughtWord}
 use Rattle.gates.proofs.Stores.{at-combined, at-plus}
 use Rattle.gates.proofs.Tables.{sum-words}
 
 -- ---- keys
 
-both : (b c : Bool) → cond b c false ≡ true → (b ≡ true) × (c ≡ true)
+pub both : (b c : Bool) → cond b c false ≡ true → (b ≡ true) × (c ≡ true)
 both true c e = (refl, e)
 both false c e = absurd (let z : _≡_ {A = ℕ} 0 1 = cc in let q : ⊥ = omega arith in q)
 
@@ -108,13 +108,13 @@ together e d r = omega arith
 -- operands that carry bits with drifts: the sum's phase and what rounding brings in are the eighths and the brought-in drift
 pub brought : (p : Params) (kind : Kind) (key a b : List ℕ) (va vb : Bool) (da db : ℕ)
     → phaseOf (p .n) key a ≡ (bitWord va + da) % Q → phaseOf (p .n) key b ≡ (bitWord vb + db) % Q
-    → (phaseOf (p .n) key (summed p kind a b) + roundingDrift p key (summed p kind a b)) % Q ≡ (sumOf kind va vb * eighth + broughtIn p kind key (summed p kind a b) da db) % Q
-unfolding broughtIn
+    → (phaseOf (p .n) key (summed p kind a b) + roundingWord p key (summed p kind a b)) % Q ≡ (sumOf kind va vb * eighth + broughtWord p kind key (summed p kind a b) da db) % Q
+unfolding broughtWord
 brought p kind key a b va vb da db ea eb =
     let x = weightsOf kind .a in
     let y = weightsOf kind .b in
     let c = weightsOf kind .added in
-    let r = roundingDrift p key (summed p kind a b) in
+    let r = roundingWord p key (summed p kind a b) in
     ap (λ (t : ℕ). (t + r) % Q) (sum-phase p kind key a b ∙ ap₂ (λ (s t : ℕ). ((x * s + y * t) % Q + c) % Q) ea eb ∙ apart x y (bitWord va) (bitWord vb) da db c
     ∙ ap (λ (t : ℕ). (t + (x * da + y * db)) % Q) (sum-words kind va vb))
     ∙ together (sumOf kind va vb * eighth) (x * da + y * db) r

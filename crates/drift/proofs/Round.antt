@@ -36,7 +36,8 @@ use Rattle.tlwe.proofs.Inverse.{inside-cases, bit-back}
 use Rattle.blind_rotation.specs.Drift.{turnTo}
 use Rattle.gates.specs.Kind.{eighth, standsFor}
 use Rattle.drift.proofs.Track.{turn-sum}
-use Rattle.drift.specs.Drift.{remainder, selected, roundingDrift, inside}
+use Rattle.drift.specs.Short.{sideOf}
+use Rattle.drift.specs.Words.{remainderWord, selectedWord, roundingWord, insideWord}
 
 source-below : (N k i : ℕ) → 0 < N → source N k i < N + N
 unfolding source
@@ -45,13 +46,13 @@ source-below N k i h = mod-lt _ (let q : 0 < N + N = omega arith in q)
 -- ---- drifts inside
 
 -- what inside says of a word
-pub inside-word : (w : ℕ) → w < Q → inside w ≡ true → (w < eighth) ⊎ (Q < w + eighth)
-unfolding inside
+pub inside-word : (w : ℕ) → w < Q → insideWord w ≡ true → (w < eighth) ⊎ (Q < w + eighth)
+unfolding insideWord
 inside-word w l h = inside-cases eighth w l (ltb-true _ _ h)
 
 -- a ciphertext whose drift is inside decrypts to its bit
-pub inside-decrypts : (v : Bool) (d t : ℕ) → t ≡ (bitWord v + d) % Q → d < Q → inside d ≡ true → bitOf t ≡ v
-unfolding inside
+pub inside-decrypts : (v : Bool) (d t : ℕ) → t ≡ (bitWord v + d) % Q → d < Q → insideWord d ≡ true → bitOf t ≡ v
+unfolding insideWord
 inside-decrypts v d t e l h = ap bitOf e ∙ bit-back v d l (ltb-true _ _ h)
 
 -- ---- which half of the turn
@@ -124,8 +125,8 @@ module _ (p : Params) (r : InRange p) where
   step-pos = omega (arith, half-pos p r, step-halves p r)
 
   -- the rounded steps, before any wrap, are the word and its remainder
-  nearest : (x : ℕ) → (x + half p) / step p * step p % Q ≡ (x + remainder p x) % Q
-  unfolding remainder neg Q
+  nearest : (x : ℕ) → (x + half p) / step p * step p % Q ≡ (x + remainderWord p x) % Q
+  unfolding remainderWord neg Q
   nearest x = omega arith
 
   -- a wrap takes whole turns off
@@ -141,11 +142,11 @@ module _ (p : Params) (r : InRange p) where
           ap (λ (n : ℕ). n % Q) ((let u : (a + b) * step p ≡ a * step p + b * step p = omega arith in u) ∙ ap (λ (n : ℕ). a * step p + n) e)
           ∙ add-mul-mod-self-left (a * step p) Q q
 
-  mask-turn : (x : ℕ) → maskAmount p x * step p % Q ≡ (x + remainder p x) % Q
+  mask-turn : (x : ℕ) → maskAmount p x * step p % Q ≡ (x + remainderWord p x) % Q
   unfolding maskAmount
   mask-turn x = wrapped (x + half p) ∙ nearest x
 
-  body-turn : (b : ℕ) → b < Q → (bodyAmount p b * step p + (b + remainder p b)) % Q ≡ 0
+  body-turn : (b : ℕ) → b < Q → (bodyAmount p b * step p + (b + remainderWord p b)) % Q ≡ 0
   unfolding Q
   body-turn b l =
       let e = ap (λ (n : ℕ). n * step p) (body-steps p r b l) in
@@ -154,29 +155,29 @@ module _ (p : Params) (r : InRange p) where
       omega arith
 
   -- one mask under the key
-  mask-under : (k x : ℕ) → k * maskAmount p x * step p % Q ≡ (x * k + k * remainder p x) % Q
+  mask-under : (k x : ℕ) → k * maskAmount p x * step p % Q ≡ (x * k + k * remainderWord p x) % Q
   mask-under k x =
       ap (λ (n : ℕ). n % Q) (let q : k * maskAmount p x * step p ≡ k * (maskAmount p x * step p) = omega arith in q)
-      ∙ sym (mul-mod-r k (maskAmount p x * step p)) ∙ ap (λ (n : ℕ). k * n % Q) (mask-turn x) ∙ mul-mod-r k (x + remainder p x)
-      ∙ ap (λ (n : ℕ). n % Q) (let q : k * (x + remainder p x) ≡ x * k + k * remainder p x = omega arith in q)
+      ∙ sym (mul-mod-r k (maskAmount p x * step p)) ∙ ap (λ (n : ℕ). k * n % Q) (mask-turn x) ∙ mul-mod-r k (x + remainderWord p x)
+      ∙ ap (λ (n : ℕ). n % Q) (let q : k * (x + remainderWord p x) ≡ x * k + k * remainderWord p x = omega arith in q)
 
   module _ (key src : List ℕ) where
-    masks-turn : (n : ℕ) → sumTo n (λ j. at key j * maskAmount p (at src j)) * step p % Q ≡ (inner n key src + sumTo n (λ i. at key i * remainder p (at src i))) % Q
+    masks-turn : (n : ℕ) → sumTo n (λ j. at key j * maskAmount p (at src j)) * step p % Q ≡ (inner n key src + sumTo n (λ i. at key i * remainderWord p (at src i))) % Q
     unfolding inner
     masks-turn n =
         ap (λ (x : ℕ). x % Q) (sym (sum-mul n (step p) (λ j. at key j * maskAmount p (at src j))))
-        ∙ sum-mod n _ (λ j. at src j * at key j + at key j * remainder p (at src j)) (λ j l. mask-under (at key j) (at src j))
-        ∙ ap (λ (x : ℕ). x % Q) (sum-add n (λ j. at src j * at key j) (λ j. at key j * remainder p (at src j)))
+        ∙ sum-mod n _ (λ j. at src j * at key j + at key j * remainderWord p (at src j)) (λ j l. mask-under (at key j) (at src j))
+        ∙ ap (λ (x : ℕ). x % Q) (sum-add n (λ j. at src j * at key j) (λ j. at key j * remainderWord p (at src j)))
 
     -- all amounts turned, in steps, cancel with the sum's phase and what rounding brings in
     turns-cancel : at src (p .n) < Q
-        → ((bodyAmount p (at src (p .n)) + sumTo (p .n) (λ j. at key j * maskAmount p (at src j))) * step p + (phaseOf (p .n) key src + roundingDrift p key src)) % Q ≡ 0
-    unfolding roundingDrift samplePhase selected
+        → ((bodyAmount p (at src (p .n)) + sumTo (p .n) (λ j. at key j * maskAmount p (at src j))) * step p + (phaseOf (p .n) key src + roundingWord p key src)) % Q ≡ 0
+    unfolding roundingWord samplePhase selectedWord
     turns-cancel l =
         let B = bodyAmount p (at src (p .n)) in
         let M = sumTo (p .n) (λ j. at key j * maskAmount p (at src j)) in
-        ap (λ (n : ℕ). (n + (phaseOf (p .n) key src + roundingDrift p key src)) % Q) (let q : (B + M) * step p ≡ B * step p + M * step p = omega arith in q)
-        ∙ settle (B * step p) (M * step p) (at src (p .n)) (remainder p (at src (p .n))) (inner (p .n) key src) (selected p key src) (body-turn (at src (p .n)) l) (masks-turn (p .n))
+        ap (λ (n : ℕ). (n + (phaseOf (p .n) key src + roundingWord p key src)) % Q) (let q : (B + M) * step p ≡ B * step p + M * step p = omega arith in q)
+        ∙ settle (B * step p) (M * step p) (at src (p .n)) (remainderWord p (at src (p .n))) (inner (p .n) key src) (selectedWord p key src) (body-turn (at src (p .n)) l) (masks-turn (p .n))
 
   -- whole turns
   multiple : (q : ℕ) → Q * q % Q ≡ 0
@@ -230,16 +231,31 @@ module _ (p : Params) (r : InRange p) where
   unfolding Q
   place R T X l e f = omega arith
 
-  module _ (key src : List ℕ) (l : at src (p .n) < Q) (e B : ℕ) (i : inside B ≡ true) (lb : B < Q)
-      (h : (phaseOf (p .n) key src + roundingDrift p key src) % Q ≡ (e * eighth + B) % Q) where
+  apart : {x : ℕ} (f d : ℕ) → d < Q → x ≡ (f + d) % Q → d ≡ (x + neg f) % Q
+  unfolding neg Q
+  apart f d b e = omega arith
+
+  -- the rounded phase, in steps: the place that the turns bring to the front
+  pub near : (key src : List ℕ) → at src (p .n) < Q → source (size p) (turnTo p key src (p .n)) 0 * step p ≡ (phaseOf (p .n) key src + roundingWord p key src) % Q
+  near key src l =
+      let T = bodyAmount p (at src (p .n)) + sumTo (p .n) (λ j. at key j * maskAmount p (at src j)) in
+      let R = source (size p) (turnTo p key src (p .n)) 0 in
+      place R (T * step p) _ (steps-below R (source-below (size p) (turnTo p key src (p .n)) 0 (size-from p)))
+      (ap (λ (k : ℕ). (source (size p) k 0 * step p + T * step p) % Q) (turn-sum p key src (p .n)) ∙ source-turn T) (turns-cancel key src l)
+
+  -- so what rounding brings in is that less the phase
+  pub rounding-near : (key src : List ℕ) → at src (p .n) < Q
+      → roundingWord p key src ≡ (source (size p) (turnTo p key src (p .n)) 0 * step p + neg (phaseOf (p .n) key src)) % Q
+  unfolding roundingWord
+  rounding-near key src l = apart (phaseOf (p .n) key src) (roundingWord p key src) (mod-lt _ Q-pos) (near key src l)
+
+  module _ (key src : List ℕ) (l : at src (p .n) < Q) (e B : ℕ) (i : insideWord B ≡ true) (lb : B < Q)
+      (h : (phaseOf (p .n) key src + roundingWord p key src) % Q ≡ (e * eighth + B) % Q) where
     abbrev K : ℕ
     K = turnTo p key src (p .n)
 
     in-steps : source (size p) K 0 * step p ≡ (e * eighth + B) % Q
-    in-steps =
-        let T = bodyAmount p (at src (p .n)) + sumTo (p .n) (λ j. at key j * maskAmount p (at src j)) in
-        place (source (size p) K 0) (T * step p) _ (steps-below (source (size p) K 0) (source-below (size p) K 0 (size-from p)))
-        (ap (λ (k : ℕ). (source (size p) k 0 * step p + T * step p) % Q) (turn-sum p key src (p .n)) ∙ source-turn T) (turns-cancel key src l) ∙ h
+    in-steps = near key src l ∙ h
 
     in-front : standsFor true e ≡ true → source (size p) K 0 < size p
     in-front s = steps-front (size p) (step p) (source (size p) K 0) (rw (in-steps, half-turn) (front e B (stands-true e s) (inside-word B lb i) lb))
@@ -247,13 +263,8 @@ module _ (p : Params) (r : InRange p) where
     in-back : standsFor false e ≡ true → size p ≤ source (size p) K 0
     in-back s = steps-back (size p) (step p) (source (size p) K 0) step-pos (rw (in-steps, half-turn) (back e B (stands-false e s) (inside-word B lb i) lb))
 
-    -- the front coefficient of the turned test vector carries the bit that the eighths stand for
-    pub turned-front : (m : Bool) → standsFor m e ≡ true → at (negating (size p) K (testB p)) 0 ≡ bitWord m
-    unfolding negating neg Q
-    turned-front true s =
-        let u = in-front s in
-        at-tab (size p) _ 0 (size-from p) ∙ rw (lt-ltb (source (size p) K 0) (size p) u) (at-tab (size p) (λ i. 2 ^ 29) (source (size p) K 0) u)
-    turned-front false s =
-        let u = in-back s in
-        let v : source (size p) K 0 - size p < size p = (let b = source-below (size p) K 0 (size-from p) in omega arith) in
-        at-tab (size p) _ 0 (size-from p) ∙ rw (le-ltb (source (size p) K 0) (size p) u) (ap (λ (x : ℕ). (2 ^ 32 - x % 2 ^ 32) % 2 ^ 32) (at-tab (size p) (λ i. 2 ^ 29) (source (size p) K 0 - size p) v))
+    -- the side is the bit that the eighths stand for
+    pub side-is : (m : Bool) → standsFor m e ≡ true → sideOf p key src ≡ m
+    unfolding sideOf
+    side-is true s = lt-ltb (source (size p) K 0) (size p) (in-front s)
+    side-is false s = le-ltb (source (size p) K 0) (size p) (in-back s)

@@ -1,1 +1,6 @@
-pub mod Drift
+pub mod Polynomials
+pub mod Whole
+pub mod Circuit
+pub mod Words
+pub mod CircuitWords
+pub mod Short

@@ -32,7 +32,7 @@ pub document01 : (offset security128 ≡ 0x82080000)
     × (rotated 4 7 four ≡ 2 ∷ 3 ∷ 4 ∷ 0xFFFFFFFE ∷ [])
     × (rotated 4 4 four ≡ 0xFFFFFFFE ∷ 0xFFFFFFFD ∷ 0xFFFFFFFC ∷ 0xFFFFFFFB ∷ [])
     × (rotated 4 8 four ≡ four)
-    × (extracted 4 0 four (5 ∷ []) ≡ 1 ∷ 0xFFFFFFFB ∷ 0xFFFFFFFC ∷ 0xFFFFFFFD ∷ 5 ∷ [])
+    × (extracted 4 0 four (5 ∷ 6 ∷ 7 ∷ 8 ∷ []) ≡ 1 ∷ 0xFFFFFFFB ∷ 0xFFFFFFFC ∷ 0xFFFFFFFD ∷ 5 ∷ [])
     × (bodyAmount security128 0 ≡ 2048)
     × (bodyAmount security128 0xFFF00000 ≡ 0)
 unfolding Q neg comp sumTo tab source rotated extract H centre offset fieldOf digitOf half step bodyAmount

@@ -5,6 +5,7 @@ use lib.Dec.{eqb}
 use Rattle.ring.specs.Word.{Q}
 use Rattle.params.specs.declared.Params.{Params}
 use Rattle.params.specs.declared.Answer.{Answer}
+use Rattle.params.specs.Refusal.{ifDone}
 
 -- The number in the low half, the place in the high half.
 unfoldable pub packed : Answer → ℕ
@@ -13,6 +14,10 @@ packed a = a .number + a .place * Q
 -- The number in the low half and a value beside the answer in the high half: for answers that have no place.
 unfoldable pub packedWith : Answer → ℕ → ℕ
 packedWith a value = a .number + value * Q
+
+-- The value beside an answer that is done, and the place beside a refusal.
+abbrev pub packedTold : Answer → ℕ → ℕ
+packedTold a value = ifDone (a .number) (packedWith a value) (packed a)
 
 -- The six numbers, in the order in which every exported function takes them.
 abbrev pub params : ℕ → ℕ → ℕ → ℕ → ℕ → ℕ → Params
@@ -26,3 +31,7 @@ bitNumber false = 0
 -- A bit as C gives it: 0 is false, any other number true.
 abbrev pub isBit : ℕ → Bool
 isBit x = not (eqb x 0)
+
+-- The version of the interface: one more with each release in which a function of it is added, taken away or changed.
+abbrev pub interfaceVersion : ℕ
+interfaceVersion = 1

@@ -7,6 +7,7 @@ ghost use Rattle.bootstrapping.specs.Refusals.{torusNumber, bootstrappingNumber
 ghost use Rattle.egl_c.specs.Packed.{packed, params};
 use super::pack;
 use params::Params;
+use utils::Torus;
 
 // `encrypt_torus` with lent masks and noise: 2L rows of 2N words, each a then b, encryptions of zero to which m times the gadget is added.
 // Refusals: 1, 2, 4.
@@ -36,7 +37,7 @@ pub extern "C" fn egl_trgsw_encrypt_torus(
             basebit,
             t,
         },
-        m,
+        Torus(m),
         masks,
         noise,
         key_lv1,

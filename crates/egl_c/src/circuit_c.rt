@@ -1,9 +1,10 @@
-// Circuits: reading, work, plain run.
+// Circuits: reading, counts, work, plain run.
 ghost use mathlib.Core.Path.{_≡_};
 ghost use lib.ListN.{length};
 ghost use Rattle.params.specs.Refusal.{ifDone};
 ghost use Rattle.circuit.specs.Form.{answerOf};
 ghost use Rattle.circuit.specs.Plain.{runAnswer, runOut, workAnswer};
+ghost use Rattle.circuit.specs.Told.{toldAnswer, toldOut};
 ghost use Rattle.egl_c.specs.Packed.{packed, packedWith};
 use super::pack;
 use super::pack_with;
@@ -14,6 +15,15 @@ pub extern "C" fn egl_circuit_check(bytes: &[u8]) -> u64
     ensures { λ r. ⌜ r ≡ packed (answerOf (now (bytes .entry))) ⌝ }
 {
     pack(circuit::check(bytes))
+}
+
+// Version, inputs, gates, outputs and work of a circuit, as five words.
+#[no_mangle]
+pub extern "C" fn egl_circuit_counts(bytes: &[u8], out: &mut [u32]) -> u64
+    ensures said { λ r. ⌜ r ≡ packed (toldAnswer (now (bytes .entry)) (length (now (out .entry)))) ⌝ }
+    ensures written { λ r. ⌜ now (out .exit) ≡ toldOut (now (bytes .entry)) (now (out .entry)) ⌝ }
+{
+    pack(circuit::tell(bytes, out))
 }
 
 // The work of a circuit, as the value; of a refused one the number and the place.

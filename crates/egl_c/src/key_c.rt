@@ -1,12 +1,10 @@
 // Key material: the offset, the test vector, the switching key and its rows.
 ghost use mathlib.Core.Path.{_≡_};
-ghost use Prim.Native.Nat.{_%_};
 ghost use lib.ListN.{length};
-ghost use Rattle.ring.specs.Word.{Q};
 ghost use Rattle.params.specs.Refusal.{answer, ifDone};
 ghost use Rattle.key.specs.Offset.{offsetOut};
 ghost use Rattle.key.specs.Testvec.{testNumber, testA, testB};
-ghost use Rattle.key.specs.Switching.{rowIndex, lookupNumber};
+ghost use Rattle.key.specs.Switching.{lookupNumber, placeOut};
 ghost use Rattle.key.specs.Generation.{generateNumber, generated};
 ghost use Rattle.egl_c.specs.Packed.{packed, packedWith, params};
 use super::pack;
@@ -23,7 +21,7 @@ pub extern "C" fn egl_key_decomposition_offset(
     basebit: u32,
     t: u32,
 ) -> u64
-    ensures { λ r. ⌜ r ≡ packedWith (offsetOut (params n nbit bgbit l basebit t) .answer) (offsetOut (params n nbit bgbit l basebit t) .value) ⌝ }
+    ensures { λ r. ⌜ r ≡ packedWith (offsetOut (params n nbit bgbit l basebit t) .answer) (offsetOut (params n nbit bgbit l basebit t) .value .0) ⌝ }
 {
     let o = key::decomposition_offset(Params {
         n,
@@ -35,7 +33,7 @@ pub extern "C" fn egl_key_decomposition_offset(
     });
     let answer = o.answer;
     let value = o.value;
-    pack_with(answer, value)
+    pack_with(answer, value.0)
 }
 
 // `gen_testvec`: a zero, b an eighth of a turn in every word. Refusals: 1, 2.
@@ -135,7 +133,7 @@ pub extern "C" fn egl_key_switching_row_answer(
     ))
 }
 
-// The place of row (i, j, k) among the rows of the switching key: its first word stands at (n + 1) times this.
+// The place of row (i, j, k) among the rows of the switching key, as the value: its first word stands at (n + 1) times this. Refusals: 1, 3.
 #[no_mangle]
 pub extern "C" fn egl_key_row_index(
     n: u32,
@@ -144,13 +142,13 @@ pub extern "C" fn egl_key_row_index(
     l: u32,
     basebit: u32,
     t: u32,
-    i: u32,
-    j: u32,
-    k: u32,
-) -> u32
-    ensures { λ r. ⌜ r ≡ rowIndex (params n nbit bgbit l basebit t) i j k % Q ⌝ }
+    i: usize,
+    j: usize,
+    k: usize,
+) -> u64
+    ensures { λ r. ⌜ r ≡ packedWith (placeOut (params n nbit bgbit l basebit t) i j k .answer) (placeOut (params n nbit bgbit l basebit t) i j k .value) ⌝ }
 {
-    key::row_index(
+    let found = key::row_index(
         Params {
             n,
             nbit,
@@ -162,5 +160,8 @@ pub extern "C" fn egl_key_row_index(
         i,
         j,
         k,
-    )
+    );
+    let answer = found.answer;
+    let value = found.value;
+    pack_with(answer, value)
 }

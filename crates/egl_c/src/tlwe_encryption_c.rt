@@ -14,6 +14,7 @@ ghost use Rattle.tlwe.specs.Decrypt.{bitOf, messageOf};
 ghost use Rattle.tlwe.specs.declared.Level.the-variants.{Zero, One};
 ghost use Rattle.tlwe.specs.declared.Plain.the-variants.{Bit, Turn, Message};
 ghost use Rattle.egl_c.specs.Packed.{packed, packedWith, params, bitNumber, isBit};
+use super::bit_number;
 use super::pack;
 use super::pack_with;
 use params::Params;
@@ -369,16 +370,6 @@ pub extern "C" fn egl_tlwe_decrypt_message_lv1(
     let answer = d.answer;
     let value = low_word(d.value);
     pack_with(answer, value)
-}
-
-// A bit as a number.
-fn bit_number(b: bool) -> u32
-    ensures { λ r. ⌜ r ≡ bitNumber b ⌝ }
-{
-    if b {
-        return 1;
-    }
-    0
 }
 
 // The low 32 bits.

@@ -1,9 +1,8 @@
 -- What the gates leave when they are called on wires: their arguments are good, so each call does its work.
 -- Assumes nothing.
-use mathlib.Core.Path.{_≡_, sym, ap, ap₂, _∙_}
+use mathlib.Core.Path.{_≡_, ap, ap₂, _∙_}
 use mathlib.Core.List.{List}
-use Prim.Native.Nat.{ℕ, _+_, _<_}
-use lib.Dec.{eqb}
+use Prim.Native.Nat.{ℕ, _+_}
 use lib.ListN.{length}
 use Rattle.params.specs.declared.Params.{Params}
 use Rattle.params.specs.Ranges.{paramsNumber}
@@ -11,16 +10,11 @@ use Rattle.params.specs.Refusal.{ifDone}
 use Rattle.tlwe.specs.declared.Level.the-variants.{Zero}
 use Rattle.tlwe.specs.Linear.{linearNumber, negative}
 use Rattle.gates.specs.declared.Kind.{Kind}
-use Rattle.gates.specs.declared.Kind.the-variants.{Xor}
-use Rattle.gates.specs.Sum.{constantOf}
-use Rattle.gates.specs.Refusals.{constantNumber}
 use Rattle.gates.specs.Gate.{gated, muxed, gateOut, muxOut}
-use Rattle.gates.proofs.Uses.{gate-written, mux-written, not-written, constant-written}
-use Rattle.encrypted_run.specs.Ways.{Way, ways, wayOf, ran}
+use Rattle.gates.proofs.Uses.{gate-written, mux-written, not-written}
 use Rattle.encrypted_run.specs.Refusals.{KeysGood, Within}
 use Rattle.encrypted_run.specs.Run.{cipherAt}
 use Rattle.encrypted_run.proofs.Ciphers.{cipher-length}
-use Rattle.encrypted_run.proofs.Operands.{known-way}
 
 -- `not` of a ciphertext
 pub not-made : (p : Params) (a o : List ℕ) {x out : List ℕ} → paramsNumber p ≡ 0 → length a ≡ p .n + 1 → length o ≡ p .n + 1 → x ≡ a
@@ -60,27 +54,3 @@ module _ (p : Params) (ksk bsk ws o : List ℕ) (k : KeysGood p (length ksk) (le
           bootstrapping = k .bootstrapping;
           result = lo;
         })
-
--- ---- the way of a kind, from what was called
-
-module _ (p : Params) (ksk bsk a b c : List ℕ) (k : ℕ) {out : List ℕ} where
-  pub as-known : (o : List ℕ) → paramsNumber p ≡ 0 → length o ≡ p .n + 1 → k < 2 → out ≡ ifDone (constantNumber p (length o)) (constantOf p (eqb k 1)) o
-      → out ≡ ran p ksk bsk (wayOf k) a b c
-  unfolding ran
-  as-known o z lo h e = e ∙ constant-written p z a o lo (eqb k 1) ∙ ap (λ (w : Way). ran p ksk bsk w a b c) (sym (known-way k h))
-
-  pub as-negated : k ≡ 2 → out ≡ negative (p .n + 1) a → out ≡ ran p ksk bsk (wayOf k) a b c
-  unfolding ran wayOf ways
-  as-negated h e = e ∙ ap (λ (j : ℕ). ran p ksk bsk (wayOf j) a b c) (sym h)
-
-  pub as-negated-xor : k ≡ 8 → out ≡ negative (p .n + 1) (gated p Xor ksk bsk a b) → out ≡ ran p ksk bsk (wayOf k) a b c
-  unfolding ran wayOf ways
-  as-negated-xor h e = e ∙ ap (λ (j : ℕ). ran p ksk bsk (wayOf j) a b c) (sym h)
-
-  pub as-choice : k ≡ 13 → out ≡ muxed p ksk bsk a b c → out ≡ ran p ksk bsk (wayOf k) a b c
-  unfolding ran wayOf ways
-  as-choice h e = e ∙ ap (λ (j : ℕ). ran p ksk bsk (wayOf j) a b c) (sym h)
-
-  pub as-gate : (kind : Kind) → wayOf k ≡ Way.gate kind → out ≡ gated p kind ksk bsk a b → out ≡ ran p ksk bsk (wayOf k) a b c
-  unfolding ran
-  as-gate kind h e = e ∙ ap (λ (w : Way). ran p ksk bsk w a b c) (sym h)

@@ -9,7 +9,7 @@ use Rattle.params.specs.declared.Params.{Params}
 use Rattle.params.specs.declared.Answer.{Answer}
 use Rattle.params.specs.Refusal.{answer}
 use Rattle.params.specs.Ranges.{paramsNumber}
-use Rattle.params.specs.Sizes.{bitWords, switchingRows}
+use Rattle.params.specs.Sizes.{switchingWords, bootstrappingWords}
 use Rattle.params.proofs.Answers.{passed, when-done}
 use Rattle.circuit.specs.Form.{inputs, outputs, wires, answerOf, orElse}
 use Rattle.circuit.proofs.Accept.{accepted, not-refused, both-done}
@@ -32,8 +32,8 @@ unfolding materialNumber
 keys-done p lk ls k =
     simp (
       eq-eqb (paramsNumber p) 0 (k .good),
-      eq-eqb lk (switchingRows p * (p .n + 1)) (k .switching),
-      eq-eqb ls (p .n * bitWords p) (k .bootstrapping),
+      eq-eqb lk (switchingWords p) (k .switching),
+      eq-eqb ls (bootstrappingWords p) (k .bootstrapping),
     )
 
 wires-good : (p : Params) (bs : List ℕ) (lw : ℕ) → wiresNumber p bs lw ≡ 0 → lw ≡ wires bs * (p .n + 1)

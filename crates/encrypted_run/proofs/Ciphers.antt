@@ -13,9 +13,10 @@ use Rattle.params.specs.Ranges.{paramsNumber}
 use Rattle.params.proofs.Ranges.{in-range}
 use Rattle.switching.proofs.Checks.{switched-length}
 use Rattle.gates.specs.Sum.{constantOf}
-use Rattle.gates.specs.Gate.{muxed}
-use Rattle.gates.proofs.Chain.{gated-length, negative-length}
-use Rattle.encrypted_run.specs.Ways.{Way, ran}
+use Rattle.gates.proofs.Chain.{negative-length}
+use Rattle.encrypted_run.specs.declared.Way.{Way}
+use Rattle.encrypted_run.specs.declared.Way.the-variants.{Known, Negated, Gate, NegatedGate, Choice}
+use Rattle.encrypted_run.specs.Ways.{made, ran}
 use Rattle.encrypted_run.specs.Refusals.{Within}
 use Rattle.encrypted_run.specs.Run.{cipherAt}
 
@@ -24,12 +25,12 @@ unfolding cipherAt
 cipher-length p ws w h = length-take-le (p .n + 1) (drop (w * (p .n + 1)) ws) (rw (length-drop (w * (p .n + 1)) ws) (omega arith))
 
 pub ran-length : (p : Params) (ksk bsk : List ℕ) (way : Way) (a b c : List ℕ) → length (ran p ksk bsk way a b c) ≡ p .n + 1
-unfolding ran constantOf muxed
-ran-length p ksk bsk (Way.known bit) a b c = length-tab (p .n + 1) _
-ran-length p ksk bsk Way.negated a b c = negative-length (p .n + 1) a
-ran-length p ksk bsk (Way.gate kind) a b c = gated-length p kind ksk bsk a b
-ran-length p ksk bsk (Way.negatedGate kind) a b c = negative-length (p .n + 1) _
-ran-length p ksk bsk Way.choice a b c = switched-length p ksk _
+unfolding ran made constantOf
+ran-length p ksk bsk (Known bit) a b c = length-tab (p .n + 1) _
+ran-length p ksk bsk Negated a b c = negative-length (p .n + 1) a
+ran-length p ksk bsk (Gate kind) a b c = switched-length p ksk _
+ran-length p ksk bsk (NegatedGate kind) a b c = negative-length (p .n + 1) _
+ran-length p ksk bsk Choice a b c = switched-length p ksk _
 
 -- so many ciphertexts have at most so many words
 pub words-to : (p : Params) (count : ℕ) → paramsNumber p ≡ 0 → count ≤ 1280 → count * (p .n + 1) ≤ 1409280

@@ -22,7 +22,7 @@ use Rattle.circuit.specs.Kinds.{kindOf}
 use Rattle.circuit.specs.Form.{inputs, gates, outputs, wires, kindAt, operandAt, outputAt}
 use Rattle.circuit.specs.Valid.{Valid}
 use Rattle.circuit.proofs.Accept.{lt-or-ge}
-use Rattle.encrypted_run.specs.Ways.{ran}
+use Rattle.encrypted_run.specs.Ways.{made, ran}
 use Rattle.encrypted_run.specs.Refusals.{StepGood, RunGood, Within}
 use Rattle.encrypted_run.specs.Run.{cipherAt, gateCipher, ciphersTo, ciphersOf, outputCiphers, wiresAfter, outputsAfter, stepped, stepAfter}
 use Rattle.encrypted_run.proofs.Ciphers.{cipher-length, wire-within}
@@ -99,7 +99,7 @@ module _ (p : Params) (ksk bsk bs ins : List ℕ) (li : length ins ≡ inputs bs
 
   module _ (v : Valid bs) (g : ℕ) (h : g < gates bs) where
     -- an operand, needed or 0, is below the gate's own wire as soon as there is a wire before it
-    operand-before : (x : ℕ) → x < 3 → 0 < inputs bs + g → operandAt bs g x < inputs bs + g
+    pub operand-before : (x : ℕ) → x < 3 → 0 < inputs bs + g → operandAt bs g x < inputs bs + g
     operand-before x l w =
         ⊎-elim
         (λ (n : x < kindOf (kindAt bs g) .operands). v .every-gate g h .needed x l n)
@@ -107,7 +107,7 @@ module _ (p : Params) (ksk bsk bs ins : List ℕ) (li : length ins ≡ inputs bs
         (lt-or-ge x (kindOf (kindAt bs g) .operands))
 
     -- with no wire before it the gate needs no operand, so it is a constant
-    constant : inputs bs + g ≡ 0 → kindAt bs g < 2
+    pub constant : inputs bs + g ≡ 0 → kindAt bs g < 2
     constant e =
         ⊎-elim
         (λ (n : kindAt bs g < 2). n)
@@ -116,7 +116,7 @@ module _ (p : Params) (ksk bsk bs ins : List ℕ) (li : length ins ≡ inputs bs
 
     -- the gate on the wires before it is the gate on the finished wires
     settled : gateCipher p ksk bsk bs (ciphersTo p ksk bsk bs ins g) g ≡ gateCipher p ksk bsk bs (ciphersOf p ksk bsk bs ins) g
-    unfolding gateCipher ran
+    unfolding gateCipher ran made
     settled =
         ⊎-elim
         (λ (e : inputs bs + g ≡ 0). rw (known-way (kindAt bs g) (constant e)))

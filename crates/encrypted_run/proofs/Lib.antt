@@ -1,3 +1,4 @@
+pub mod Made
 pub mod Ciphers
 pub mod Checks
 pub mod Operands
@@ -6,4 +7,5 @@ pub mod Wires
 pub mod Meanings
 pub mod Unread
 pub mod Laws
+pub mod Examples
 pub mod Determined

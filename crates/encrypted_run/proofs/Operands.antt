@@ -1,12 +1,12 @@
 -- What a gate of a valid circuit reads: the operands that its kind needs, each below its own wire. The numbers of operands are tested over the table of kinds.
 -- Assumes nothing.
-use mathlib.Core.Path.{_≡_, refl, ap, _∙_}
+use mathlib.Core.Path.{_≡_, refl, sym, ap, _∙_}
 use mathlib.Core.Bool.{Bool}
 use mathlib.Core.List.{List}
 use Prim.Native.Nat.{ℕ, zero, suc, _+_, _*_, _≤_, _<_}
 use native.Mathlib.Omega.{arith}
 use borrow.Author.Tests.{lt-ltb}
-use lib.Dec.{leb, ltb, eqb, leb→le, lit<}
+use lib.Dec.{leb, ltb, eqb, eqb→eq, leb→le, lit<}
 use lib.ListN.{getD, take}
 use Rattle.params.specs.declared.Params.{Params}
 use Rattle.params.specs.Refusal.{pick}
@@ -16,51 +16,42 @@ use Rattle.circuit.specs.Form.{inputs, gates, outputs, kindAt, operandAt, count
 use Rattle.circuit.specs.Valid.{Valid}
 use Rattle.circuit.proofs.Table.{entry}
 use Rattle.circuit.proofs.Columns.{operandTable, operand-entry}
-use Rattle.encrypted_run.specs.Ways.{Way, ways, wayOf, ran}
+use Rattle.encrypted_run.specs.declared.Way.{Way}
+use Rattle.encrypted_run.specs.declared.Way.the-variants.{Known}
+use Rattle.encrypted_run.specs.Ways.{ways, wayOf, operandsOf, ran}
 use Rattle.encrypted_run.specs.Refusals.{Reads}
 use Rattle.encrypted_run.specs.Run.{cipherAt, gateCipher}
 use Rattle.encrypted_run.proofs.Ciphers.{wire-within}
 
--- ---- how many operands a kind needs at least
+-- ---- what a way needs
 
-least : ℕ → ℕ
-least zero = 0
-least (suc zero) = 0
-least (suc (suc zero)) = 1
-least (suc (suc (suc k))) = 2
+-- a kind needs as many operands as its way
+as-many : ℕ → ℕ → Bool
+as-many k x = eqb (operandsOf (wayOf k)) x
 
-enough : ℕ → ℕ → Bool
-enough k x = leb (least k) x
+pub ways-need : (k : ℕ) → k ≤ 13 → operandsOf (wayOf k) ≡ kindOf k .operands
+unfolding as-many operandsOf wayOf ways
+ways-need k h = eqb→eq (operandsOf (wayOf k)) (getD operandTable k 0) (entry as-many operandTable tt k (omega arith)) ∙ operand-entry k h .0
 
-needs : (k : ℕ) → k ≤ 13 → least k ≤ kindOf k .operands
-unfolding enough least
-needs k h =
-    let t = leb→le (least k) (getD operandTable k 0) (entry enough operandTable tt k (omega arith)) in
-    let e = operand-entry k h .0 in
-    omega arith
-
+-- a kind that needs no operand is a constant
 pub needs-first : (k : ℕ) → 2 ≤ k → k ≤ 13 → 0 < kindOf k .operands
-unfolding least
-needs-first zero a b = absurd (let q : ⊥ = omega arith in q)
-needs-first (suc zero) a b = absurd (let q : ⊥ = omega arith in q)
-needs-first (suc (suc zero)) a b = needs 2 b
-needs-first (suc (suc (suc k))) a b = let n = needs (suc (suc (suc k))) b in omega arith
+needs-first k a b = let t = leb→le (least k) (getD operandTable k 0) (entry enough operandTable tt k (omega arith)) in let e = operand-entry k b .0 in let q = least-one k a in omega arith
+  where
+    least : ℕ → ℕ
+    least zero = 0
+    least (suc zero) = 0
+    least (suc (suc k)) = 1
 
-pub needs-second : (k : ℕ) → 3 ≤ k → k ≤ 13 → 1 < kindOf k .operands
-unfolding least
-needs-second zero a b = absurd (let q : ⊥ = omega arith in q)
-needs-second (suc zero) a b = absurd (let q : ⊥ = omega arith in q)
-needs-second (suc (suc zero)) a b = absurd (let q : ⊥ = omega arith in q)
-needs-second (suc (suc (suc k))) a b = needs (suc (suc (suc k))) b
+    enough : ℕ → ℕ → Bool
+    enough k x = leb (least k) x
 
-pub needs-third : (k : ℕ) → k ≡ 13 → 2 < kindOf k .operands
-unfolding kindOf kinds
-needs-third k e = rw e (lit< tt)
-
--- ---- the ways of the first kinds
+    least-one : (k : ℕ) → 2 ≤ k → least k ≡ 1
+    least-one zero h = absurd (let q : ⊥ = omega arith in q)
+    least-one (suc zero) h = absurd (let q : ⊥ = omega arith in q)
+    least-one (suc (suc k)) h = refl
 
 -- kinds 0 and 1 are the constants
-pub known-way : (k : ℕ) → k < 2 → wayOf k ≡ Way.known (eqb k 1)
+pub known-way : (k : ℕ) → k < 2 → wayOf k ≡ Known (eqb k 1)
 unfolding wayOf ways
 known-way zero h = refl
 known-way (suc zero) h = refl
@@ -87,7 +78,7 @@ there i n v h e = e ∙ rw (lt-ltb i n h)
 
 module _ (p : Params) (bs : List ℕ) (v : Valid bs) (g : ℕ) (l : g < gates bs) where
   -- the operands that gate g needs lie within the wires before it
-  pub reads : Reads p (kindAt bs g) (operandAt bs g 0) (operandAt bs g 1) (operandAt bs g 2) ((inputs bs + g) * (p .n + 1))
+  pub reads : Reads p (kindOf (kindAt bs g) .operands) (operandAt bs g 0) (operandAt bs g 1) (operandAt bs g 2) ((inputs bs + g) * (p .n + 1))
   reads =
       let d = v .every-gate g l in
       record {
@@ -97,15 +88,12 @@ module _ (p : Params) (bs : List ℕ) (v : Valid bs) (g : ℕ) (l : g < gates bs
       }
 
   -- the same of what the code has read
-  pub reads-as : {k x y z len : ℕ} → k ≡ kindAt bs g → x ≡ operandAt bs g 0 → y ≡ operandAt bs g 1 → z ≡ operandAt bs g 2 → len ≡ (inputs bs + g) * (p .n + 1) → Reads p k x y z len
-  reads-as ek ex ey ez el = rw (ek, ex, ey, ez, el) reads
-
-  pub kind-to : {k : ℕ} → k ≡ kindAt bs g → k ≤ 13
-  kind-to e = let d = v .every-gate g l .kind-to in omega (arith, e, d)
+  pub reads-as : {way : Way} {x y z len : ℕ} → way ≡ wayOf (kindAt bs g) → x ≡ operandAt bs g 0 → y ≡ operandAt bs g 1 → z ≡ operandAt bs g 2 → len ≡ (inputs bs + g) * (p .n + 1) → Reads p (operandsOf way) x y z len
+  reads-as ew ex ey ez el = rw (ew, ways-need (kindAt bs g) (v .every-gate g l .kind-to), ex, ey, ez, el) reads
 
 -- the gate's ciphertext, from what the code has read
-pub gate-made : (p : Params) (ksk bsk bs ws : List ℕ) (g : ℕ) {k x y z len : ℕ} {out : List ℕ} → k ≡ kindAt bs g → x ≡ operandAt bs g 0 → y ≡ operandAt bs g 1 → z ≡ operandAt bs g 2 → len ≡ (inputs bs + g) * (p .n + 1)
-    → out ≡ ran p ksk bsk (wayOf k) (cipherAt p (take len ws) x) (cipherAt p (take len ws) y) (cipherAt p (take len ws) z)
+pub gate-made : (p : Params) (ksk bsk bs ws : List ℕ) (g : ℕ) {way : Way} {x y z len : ℕ} {out : List ℕ} → way ≡ wayOf (kindAt bs g) → x ≡ operandAt bs g 0 → y ≡ operandAt bs g 1 → z ≡ operandAt bs g 2 → len ≡ (inputs bs + g) * (p .n + 1)
+    → out ≡ ran p ksk bsk way (cipherAt p (take len ws) x) (cipherAt p (take len ws) y) (cipherAt p (take len ws) z)
     → out ≡ gateCipher p ksk bsk bs (take ((inputs bs + g) * (p .n + 1)) ws) g
 unfolding gateCipher
-gate-made p ksk bsk bs ws g ek ex ey ez el e = e ∙ rw (ek, ex, ey, ez, el)
+gate-made p ksk bsk bs ws g ew ex ey ez el e = e ∙ rw (ew, ex, ey, ez, el)

@@ -1,7 +1,7 @@
 -- A run reads no key row that its gates do not use: two key materials that are alike where the gates look give the same wires. A switching is a sum, and a field
 -- that is 0 adds nothing; gate after gate the wires are then the same, by induction on the gates.
 -- Assumes nothing.
-use mathlib.Core.Path.{_≡_, refl, ap, _∙_}
+use mathlib.Core.Path.{_≡_, refl, sym, ap, _∙_}
 use mathlib.Core.Bool.{cond}
 use mathlib.Core.List.{List, _++_}
 use Prim.Native.Nat.{ℕ, zero, suc, _+_, _%_, _<_}
@@ -22,7 +22,10 @@ use Rattle.gates.specs.declared.Kind.the-variants.{And, AndNy}
 use Rattle.gates.specs.Sum.{summed, muxSum}
 use Rattle.gates.specs.Gate.{rotatedSample, bootstrapped, gated, muxed}
 use Rattle.circuit.specs.Form.{gates, kindAt, operandAt}
-use Rattle.encrypted_run.specs.Ways.{Way, wayOf, ran}
+use Rattle.encrypted_run.specs.declared.Way.{Way}
+use Rattle.encrypted_run.specs.declared.Way.the-variants.{Known, Negated, Gate, NegatedGate, Choice}
+use Rattle.encrypted_run.specs.Ways.{wayOf, ran}
+use Rattle.encrypted_run.proofs.Made.{ran-known, ran-negated, ran-gate, ran-negated-gate, ran-choice}
 use Rattle.encrypted_run.specs.Run.{cipherAt, gateCipher, ciphersTo, ciphersOf}
 use Rattle.encrypted_run.specs.Rows.{RowsAlike, Alike, KeysAlike, GateAlike}
 
@@ -53,14 +56,17 @@ gated-alike p kind ksk ksk′ bsk bsk′ a b h =
 
 -- each way
 pub ran-alike : (p : Params) (ksk ksk′ bsk bsk′ : List ℕ) (way : Way) (a b c : List ℕ) → KeysAlike p ksk ksk′ bsk bsk′ way a b c → ran p ksk bsk way a b c ≡ ran p ksk′ bsk′ way a b c
-unfolding ran KeysAlike muxed
-ran-alike p ksk ksk′ bsk bsk′ (Way.known bit) a b c h = refl
-ran-alike p ksk ksk′ bsk bsk′ Way.negated a b c h = refl
-ran-alike p ksk ksk′ bsk bsk′ (Way.gate kind) a b c h = gated-alike p kind ksk ksk′ bsk bsk′ a b h
-ran-alike p ksk ksk′ bsk bsk′ (Way.negatedGate kind) a b c h = ap (negative (p .n + 1)) (gated-alike p kind ksk ksk′ bsk bsk′ a b h)
-ran-alike p ksk ksk′ bsk bsk′ Way.choice a b c h =
-    switched-alike p ksk ksk′ (muxSum p (rotatedSample p bsk (summed p And a b)) (rotatedSample p bsk (summed p AndNy a c))) (h .1)
+unfolding KeysAlike muxed
+ran-alike p ksk ksk′ bsk bsk′ (Known bit) a b c h = ran-known p ksk bsk a b c bit ∙ sym (ran-known p ksk′ bsk′ a b c bit)
+ran-alike p ksk ksk′ bsk bsk′ Negated a b c h = ran-negated p ksk bsk a b c ∙ sym (ran-negated p ksk′ bsk′ a b c)
+ran-alike p ksk ksk′ bsk bsk′ (Gate kind) a b c h = ran-gate p ksk bsk a b c kind ∙ gated-alike p kind ksk ksk′ bsk bsk′ a b h ∙ sym (ran-gate p ksk′ bsk′ a b c kind)
+ran-alike p ksk ksk′ bsk bsk′ (NegatedGate kind) a b c h =
+    ran-negated-gate p ksk bsk a b c kind ∙ ap (negative (p .n + 1)) (gated-alike p kind ksk ksk′ bsk bsk′ a b h) ∙ sym (ran-negated-gate p ksk′ bsk′ a b c kind)
+ran-alike p ksk ksk′ bsk bsk′ Choice a b c h =
+    ran-choice p ksk bsk a b c
+    ∙ switched-alike p ksk ksk′ (muxSum p (rotatedSample p bsk (summed p And a b)) (rotatedSample p bsk (summed p AndNy a c))) (h .1)
     ∙ ap (λ (k : List ℕ). switched p ksk′ (muxSum p (rotatedSample p k (summed p And a b)) (rotatedSample p k (summed p AndNy a c)))) (h .0)
+    ∙ sym (ran-choice p ksk′ bsk′ a b c)
 
 module _ (p : Params) (ksk ksk′ bsk bsk′ bs ins : List ℕ) where
   wires-alike : (n : ℕ) → ((g : ℕ) → g < n → GateAlike p ksk ksk′ bsk bsk′ bs ins g) → ciphersTo p ksk bsk bs ins n ≡ ciphersTo p ksk′ bsk′ bs ins n

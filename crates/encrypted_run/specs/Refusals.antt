@@ -7,8 +7,7 @@ use Rattle.params.specs.declared.Params.{Params}
 use Rattle.params.specs.declared.Answer.{Answer}
 use Rattle.params.specs.Refusal.{check, answer}
 use Rattle.params.specs.Ranges.{paramsNumber}
-use Rattle.params.specs.Sizes.{bitWords, switchingRows}
-use Rattle.circuit.specs.Kinds.{kindOf}
+use Rattle.params.specs.Sizes.{switchingWords, bootstrappingWords}
 use Rattle.circuit.specs.Form.{inputs, outputs, wires, answerOf, orElse}
 use Rattle.circuit.specs.Valid.{Valid}
 
@@ -16,8 +15,8 @@ use Rattle.circuit.specs.Valid.{Valid}
 unfoldable pub materialNumber : Params → ℕ → ℕ → ℕ
 materialNumber p lk ls =
     check (eqb (paramsNumber p) 0) 1
-    (check (eqb lk (switchingRows p * (p .n + 1))) 2
-    (check (eqb ls (p .n * bitWords p)) 2
+    (check (eqb lk (switchingWords p)) 2
+    (check (eqb ls (bootstrappingWords p)) 2
     0))
 
 -- The wires' slice has n + 1 words for each wire.
@@ -44,8 +43,8 @@ stepAnswer p lk ls bs lw = orElse (answer (materialNumber p lk ls)) (orElse (ans
 -- Of the key material.
 pub record KeysGood (p : Params) (lk ls : ℕ) : Type 0 where
   pub good : paramsNumber p ≡ 0
-  pub switching : lk ≡ switchingRows p * (p .n + 1)
-  pub bootstrapping : ls ≡ p .n * bitWords p
+  pub switching : lk ≡ switchingWords p
+  pub bootstrapping : ls ≡ bootstrappingWords p
 
 -- Of one gate of a run.
 pub record StepGood (p : Params) (lk ls : ℕ) (bs : List ℕ) (lw : ℕ) : Type 0 where
@@ -63,8 +62,8 @@ pub record RunGood (p : Params) (lk ls : ℕ) (bs : List ℕ) (li lw lo : ℕ) :
 abbrev pub Within : Params → ℕ → ℕ → Type 0
 Within p x len = x * (p .n + 1) + (p .n + 1) ≤ len
 
--- The operands that a kind needs lie within so many words.
-pub record Reads (p : Params) (k x y z len : ℕ) : Type 0 where
-  pub first : 0 < kindOf k .operands → Within p x len
-  pub second : 1 < kindOf k .operands → Within p y len
-  pub third : 2 < kindOf k .operands → Within p z len
+-- The operands x, y and z, as many of them as are needed, lie within so many words.
+pub record Reads (p : Params) (needed x y z len : ℕ) : Type 0 where
+  pub first : 0 < needed → Within p x len
+  pub second : 1 < needed → Within p y len
+  pub third : 2 < needed → Within p z len

@@ -12,7 +12,9 @@ use Rattle.gates.specs.declared.Kind.the-variants.{And, AndNy}
 use Rattle.gates.specs.Sum.{summed, muxSum}
 use Rattle.gates.specs.Gate.{rotatedSample}
 use Rattle.circuit.specs.Form.{kindAt, operandAt}
-use Rattle.encrypted_run.specs.Ways.{Way, wayOf}
+use Rattle.encrypted_run.specs.declared.Way.{Way}
+use Rattle.encrypted_run.specs.declared.Way.the-variants.{Known, Negated, Gate, NegatedGate, Choice}
+use Rattle.encrypted_run.specs.Ways.{wayOf}
 use Rattle.encrypted_run.specs.Run.{cipherAt, ciphersTo}
 
 -- Two switching keys have the same words in every row that the sample's fields use: row (i, j, k) for field j of mask i being k, not 0.
@@ -27,11 +29,11 @@ Alike p ksk ksk′ bsk bsk′ sample = (bsk ≡ bsk′) × RowsAlike p ksk ksk�
 
 -- Two key materials are alike where a way looks on these ciphertexts: a known bit and a negation look at no key.
 unfoldable pub KeysAlike : Params → List ℕ → List ℕ → List ℕ → List ℕ → Way → List ℕ → List ℕ → List ℕ → Type 0
-KeysAlike p ksk ksk′ bsk bsk′ (Way.known bit) a b c = Unit
-KeysAlike p ksk ksk′ bsk bsk′ Way.negated a b c = Unit
-KeysAlike p ksk ksk′ bsk bsk′ (Way.gate kind) a b c = Alike p ksk ksk′ bsk bsk′ (rotatedSample p bsk (summed p kind a b))
-KeysAlike p ksk ksk′ bsk bsk′ (Way.negatedGate kind) a b c = Alike p ksk ksk′ bsk bsk′ (rotatedSample p bsk (summed p kind a b))
-KeysAlike p ksk ksk′ bsk bsk′ Way.choice a b c =
+KeysAlike p ksk ksk′ bsk bsk′ (Known bit) a b c = Unit
+KeysAlike p ksk ksk′ bsk bsk′ Negated a b c = Unit
+KeysAlike p ksk ksk′ bsk bsk′ (Gate kind) a b c = Alike p ksk ksk′ bsk bsk′ (rotatedSample p bsk (summed p kind a b))
+KeysAlike p ksk ksk′ bsk bsk′ (NegatedGate kind) a b c = Alike p ksk ksk′ bsk bsk′ (rotatedSample p bsk (summed p kind a b))
+KeysAlike p ksk ksk′ bsk bsk′ Choice a b c =
     Alike p ksk ksk′ bsk bsk′ (muxSum p (rotatedSample p bsk (summed p And a b)) (rotatedSample p bsk (summed p AndNy a c)))
 
 -- They are alike where gate g of a run looks.

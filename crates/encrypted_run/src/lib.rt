@@ -7,12 +7,25 @@ ghost use Rattle.params.specs.Ranges.{paramsNumber};
 ghost use Rattle.circuit.specs.Valid.{Valid};
 ghost use Rattle.encrypted_run.specs.Refusals.{materialNumber, wiresNumber, ciphersNumber, encryptedAnswer, stepAnswer};
 ghost use Rattle.encrypted_run.specs.Run.{wiresAfter, outputsAfter, stepAfter};
+use gates::Kind;
 use params::Answer;
 use params::Params;
 
 mod slices;
 mod steps;
 mod ways;
+
+pub use ways::way_of;
+
+// How a gate of a circuit is run on ciphertexts: a known bit, the first operand negated, a two-input gate, one whose result is negated, or a choice by the
+// first operand.
+pub enum Way {
+    Known(bool),
+    Negated,
+    Gate(Kind),
+    NegatedGate(Kind),
+    Choice,
+}
 
 // The refusal of the parameters and of both keys' lengths, or 0.
 fn keys_number(p: Params, lk: usize, ls: usize) -> u32

@@ -14,6 +14,7 @@ use crate::slices::ciphertext;
 use crate::slices::put_at;
 use crate::slices::put_front;
 use crate::ways::way_into;
+use crate::ways::way_of;
 use params::Params;
 
 // Gate g's ciphertext, from those of the wires before it.
@@ -31,11 +32,11 @@ fn gate_into(
 {
     let shape = circuit::counts(bytes);
     let end = (shape.inputs + g) * out.len();
-    let kind = circuit::kind_at(bytes, g);
+    let way = way_of(circuit::kind_at(bytes, g));
     let x = circuit::operand_at(bytes, g, 0);
     let y = circuit::operand_at(bytes, g, 1);
     let z = circuit::operand_at(bytes, g, 2);
-    way_into(p, kind, &wires[..end], x, y, z, ksk, bsk, out);
+    way_into(p, way, &wires[..end], x, y, z, ksk, bsk, out);
 }
 
 // Gate g's ciphertext in the scratch c, and then in its place.

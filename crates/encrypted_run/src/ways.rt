@@ -1,47 +1,47 @@
 // One gate of a circuit on ciphertexts: the way of its kind (specs/Ways.antt).
 ghost use mathlib.Core.Path.{_≡_};
-ghost use Prim.Native.Nat.{_+_, _≤_};
+ghost use Prim.Native.Nat.{_+_};
 ghost use lib.ListN.{length};
 ghost use Rattle.params.specs.Ranges.{paramsNumber};
 ghost use Rattle.tlwe.specs.Linear.{negative};
+ghost use Rattle.gates.specs.Sum.{constantOf};
 ghost use Rattle.gates.specs.Gate.{gated, muxed};
-ghost use Rattle.encrypted_run.specs.Ways.{Way, wayOf, ran};
+ghost use Rattle.encrypted_run.specs.Ways.{wayOf, operandsOf, ran};
 ghost use Rattle.encrypted_run.specs.Refusals.{KeysGood, Within, Reads};
 ghost use Rattle.encrypted_run.specs.Run.{cipherAt};
+use super::Way;
 use crate::slices::ciphertext;
 use gates::Kind;
 use params::Params;
 
-// The gate that a kind of two operands runs.
-fn gate_kind(kind: usize) -> Kind
-    requires { ⌜ (3 ≤ kind) × (kind ≤ 12) × (kind ≡ 8 → ⊥) ⌝ }
-    ensures { λ r. ⌜ wayOf kind ≡ Way.gate r ⌝ }
+// The way of a circuit's kind; of a number that no kind has, that of the first. Kind 8 runs xor and negates.
+pub fn way_of(kind: usize) -> Way
+    ensures { λ r. ⌜ r ≡ wayOf kind ⌝ }
 {
-    if kind == 3 {
-        return Kind::And;
+    match kind {
+        1 => Way::Known(true),
+        2 => Way::Negated,
+        3 => Way::Gate(Kind::And),
+        4 => Way::Gate(Kind::Or),
+        5 => Way::Gate(Kind::Nand),
+        6 => Way::Gate(Kind::Nor),
+        7 => Way::Gate(Kind::Xor),
+        8 => Way::NegatedGate(Kind::Xor),
+        9 => Way::Gate(Kind::AndNy),
+        10 => Way::Gate(Kind::AndYn),
+        11 => Way::Gate(Kind::OrNy),
+        12 => Way::Gate(Kind::OrYn),
+        13 => Way::Choice,
+        _ => Way::Known(false),
     }
-    if kind == 4 {
-        return Kind::Or;
-    }
-    if kind == 5 {
-        return Kind::Nand;
-    }
-    if kind == 6 {
-        return Kind::Nor;
-    }
-    if kind == 7 {
-        return Kind::Xor;
-    }
-    if kind == 9 {
-        return Kind::AndNy;
-    }
-    if kind == 10 {
-        return Kind::AndYn;
-    }
-    if kind == 11 {
-        return Kind::OrNy;
-    }
-    Kind::OrYn
+}
+
+// A known bit.
+fn known_into(p: Params, bit: bool, out: &mut [u32])
+    requires { ⌜ (paramsNumber p ≡ 0) × (length (now out) ≡ p .n + 1) ⌝ }
+    ensures { λ _. ⌜ now (out .exit) ≡ constantOf p bit ⌝ }
+{
+    gates::wires::constant(p, bit, out);
 }
 
 // Wire x negated.
@@ -140,10 +140,10 @@ fn mux_into(
     );
 }
 
-// A gate of this kind on wires x, y and z, of which it reads those that it needs. Kind 8 runs xor and negates.
+// A gate on wires x, y and z, of which its way uses those that it needs.
 pub(crate) fn way_into(
     p: Params,
-    kind: usize,
+    way: Way,
     wires: &[u32],
     x: usize,
     y: usize,
@@ -152,24 +152,14 @@ pub(crate) fn way_into(
     bsk: &[u32],
     out: &mut [u32],
 )
-    requires { ⌜ KeysGood p (length (now ksk)) (length (now bsk)) × (kind ≤ 13) × Reads p kind x y z (length (now wires)) × (length (now out) ≡ p .n + 1) ⌝ }
-    ensures { λ _. ⌜ now (out .exit) ≡ ran p (now (ksk .entry)) (now (bsk .entry)) (wayOf kind) (cipherAt p (now (wires .entry)) x) (cipherAt p (now (wires .entry)) y) (cipherAt p (now (wires .entry)) z) ⌝ }
+    requires { ⌜ KeysGood p (length (now ksk)) (length (now bsk)) × Reads p (operandsOf way) x y z (length (now wires)) × (length (now out) ≡ p .n + 1) ⌝ }
+    ensures { λ _. ⌜ now (out .exit) ≡ ran p (now (ksk .entry)) (now (bsk .entry)) way (cipherAt p (now (wires .entry)) x) (cipherAt p (now (wires .entry)) y) (cipherAt p (now (wires .entry)) z) ⌝ }
 {
-    if kind < 2 {
-        gates::wires::constant(p, kind == 1, out);
-        return;
+    match way {
+        Way::Known(bit) => known_into(p, bit, out),
+        Way::Negated => not_into(p, wires, x, out),
+        Way::Gate(kind) => two_into(p, kind, wires, x, y, ksk, bsk, out),
+        Way::NegatedGate(kind) => negated_into(p, kind, wires, x, y, ksk, bsk, out),
+        Way::Choice => mux_into(p, wires, x, y, z, ksk, bsk, out),
     }
-    if kind == 2 {
-        not_into(p, wires, x, out);
-        return;
-    }
-    if kind == 8 {
-        negated_into(p, Kind::Xor, wires, x, y, ksk, bsk, out);
-        return;
-    }
-    if kind == 13 {
-        mux_into(p, wires, x, y, z, ksk, bsk, out);
-        return;
-    }
-    two_into(p, gate_kind(kind), wires, x, y, ksk, bsk, out);
 }

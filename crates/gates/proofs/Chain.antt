@@ -15,7 +15,7 @@ use Rattle.ring.proofs.Tab.{length-tab}
 use Rattle.params.specs.declared.Params.{Params}
 use Rattle.params.specs.Refusal.{ifDone}
 use Rattle.params.specs.Ranges.{paramsNumber}
-use Rattle.params.specs.Sizes.{size, bitWords, switchingRows}
+use Rattle.params.specs.Sizes.{size, switchingWords, bootstrappingWords}
 use Rattle.params.proofs.Answers.{when-done}
 use Rattle.params.proofs.Ranges.{in-range, size-from}
 use Rattle.decomposition.specs.Pair.{Pair}
@@ -72,7 +72,7 @@ module _ (p : Params) (bsk src : List ℕ) where
 
 -- ---- links
 
-module _ (p : Params) (e : paramsNumber p ≡ 0) (bsk : List ℕ) (lk : length bsk ≡ p .n * bitWords p) where
+module _ (p : Params) (e : paramsNumber p ≡ 0) (bsk : List ℕ) (lk : length bsk ≡ bootstrappingWords p) where
   -- the rotation
   turned-to : (src : List ℕ) (o : Pair) → length src ≡ p .n + 1 → length (o .a) ≡ size p → length (o .b) ≡ size p
       → blindOut p src bsk o ≡ blindRotated p bsk src (testPair p)
@@ -92,7 +92,7 @@ module _ (p : Params) (e : paramsNumber p ≡ 0) (bsk : List ℕ) (lk : length b
       eo ∙ ap₂ (λ (x y : List ℕ). extractOut p x y 0 oo) (ea ∙ ap (λ (x : Pair). x .a) t) (eb ∙ ap (λ (x : Pair). x .b) t)
       ∙ sample-extract-index-done p (in-range p e) (blindRotated p bsk s (testPair p) .a) (blindRotated p bsk s (testPair p) .b) 0 oo (l .0) (l .1) lo (size-from p)
 
-module _ (p : Params) (e : paramsNumber p ≡ 0) (ksk bsk o : List ℕ) (lk : length ksk ≡ switchingRows p * (p .n + 1)) (lo : length o ≡ p .n + 1) where
+module _ (p : Params) (e : paramsNumber p ≡ 0) (ksk bsk o : List ℕ) (lk : length ksk ≡ switchingWords p) (lo : length o ≡ p .n + 1) where
   -- one switching, of a sample of N + 1 words
   switched-to : (src : List ℕ) {sample out : List ℕ} → length src ≡ size p + 1 → sample ≡ src
       → out ≡ ifDone (switchNumber p (length sample) (length ksk) (length o)) (switched p ksk sample) o → out ≡ switched p ksk src

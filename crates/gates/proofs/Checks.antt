@@ -10,7 +10,7 @@ use Rattle.params.specs.declared.Params.{Params}
 use Rattle.params.specs.declared.Sizes.{Sizes}
 use Rattle.params.specs.Refusal.{check}
 use Rattle.params.specs.Ranges.{paramsNumber}
-use Rattle.params.specs.Sizes.{size, bitWords, switchingRows, sizesOf, sizesIn}
+use Rattle.params.specs.Sizes.{size, sizesOf, sizesIn, switchingWords, bootstrappingWords}
 use Rattle.params.proofs.Answers.{passed}
 use Rattle.params.proofs.Ranges.{in-range, size-to, sizes-good, sizes-number}
 use Rattle.gates.specs.Refusals.{keysNumber, gateNumber, muxNumber, constantNumber, GateGood, MuxGood}
@@ -65,8 +65,8 @@ gate-done p la lb lk ls lo g =
       eq-eqb (paramsNumber p) 0 (g .good),
       eq-eqb la (p .n + 1) (g .first),
       eq-eqb lb (p .n + 1) (g .second),
-      eq-eqb lk (switchingRows p * (p .n + 1)) (g .switching),
-      eq-eqb ls (p .n * bitWords p) (g .bootstrapping),
+      eq-eqb lk (switchingWords p) (g .switching),
+      eq-eqb ls (bootstrappingWords p) (g .bootstrapping),
       eq-eqb lo (p .n + 1) (g .result),
     )
 
@@ -98,8 +98,8 @@ mux-done p la lb lc lk ls lo g =
       eq-eqb la (p .n + 1) (g .first),
       eq-eqb lb (p .n + 1) (g .second),
       eq-eqb lc (p .n + 1) (g .third),
-      eq-eqb lk (switchingRows p * (p .n + 1)) (g .switching),
-      eq-eqb ls (p .n * bitWords p) (g .bootstrapping),
+      eq-eqb lk (switchingWords p) (g .switching),
+      eq-eqb ls (bootstrappingWords p) (g .bootstrapping),
       eq-eqb lo (p .n + 1) (g .result),
     )
 

@@ -1,51 +1,71 @@
--- Two outcomes that a contract of this crate allows coincide: each contract is an equation for each thing that a call leaves behind.
+-- Two outcomes that a contract of this crate allows coincide: of the contract itself, as `rattle` reads it from the code, for every public routine (01, 'What the contracts owe').
 -- Assumes nothing.
-use mathlib.Core.Path.{_≡_}
-use mathlib.Core.Bool.{Bool}
-use mathlib.Core.List.{List}
-use Prim.Native.Nat.{ℕ, _+_}
-use lib.ListN.{length}
-use Rattle.params.specs.declared.Params.{Params}
-use Rattle.params.specs.declared.Answer.{Answer}
-use Rattle.params.specs.Refusal.{answer, ifDone}
-use Rattle.params.proofs.Answers.{coincide}
-use Rattle.tlwe.specs.declared.Level.the-variants.{Zero}
-use Rattle.tlwe.specs.Linear.{linearNumber, negative}
-use Rattle.gates.specs.declared.Kind.{Kind}
-use Rattle.gates.specs.Sum.{constantOf}
-use Rattle.gates.specs.Refusals.{gateNumber, muxNumber, constantNumber}
-use Rattle.gates.specs.Gate.{muxed, muxedNaive, gateOut, muxOut}
+use Rattle.ring.proofs.Outcomes.{Determined, said, said-written}
+use Rattle.gates.proofs.sums.weights_of as weights-of
+use Rattle.gates.proofs.gate as gate
+use Rattle.gates.proofs.nand as nand
+use Rattle.gates.proofs.or as or
+use Rattle.gates.proofs.and as and
+use Rattle.gates.proofs.nor as nor
+use Rattle.gates.proofs.and_ny as and-ny
+use Rattle.gates.proofs.and_yn as and-yn
+use Rattle.gates.proofs.or_ny as or-ny
+use Rattle.gates.proofs.or_yn as or-yn
+use Rattle.gates.proofs.xor as xor
+use Rattle.gates.proofs.xnor as xnor
+use Rattle.gates.proofs.mux as mux
+use Rattle.gates.proofs.mux_naive as mux-naive
+use Rattle.gates.proofs.wires.not as not
+use Rattle.gates.proofs.wires.copy as copy
+use Rattle.gates.proofs.wires.constant as constant
 
-module _ (p : Params) (a b c ksk bsk o : List ℕ) {r s : Answer} {x y : List ℕ} where
-  -- `gate`, and at its own kind each of `nand`, `or`, `and`, `nor`, `and_ny`, `and_yn`, `or_ny`, `or_yn`, `xor` and `xnor`
-  pub gate-determined : (kind : Kind) → r ≡ answer (gateNumber p (length a) (length b) (length ksk) (length bsk) (length o))
-      → s ≡ answer (gateNumber p (length a) (length b) (length ksk) (length bsk) (length o)) → x ≡ gateOut p kind a b ksk bsk o → y ≡ gateOut p kind a b ksk bsk o → (r ≡ s) × (x ≡ y)
-  gate-determined kind e e′ f f′ = (coincide e e′, coincide f f′)
+pub weights-of-determined : Determined weights-of.ended weights-of.Reads.Learnt
+weights-of-determined κs a x y v w = said
 
-  -- `mux`
-  pub mux-determined : r ≡ answer (muxNumber p (length a) (length b) (length c) (length ksk) (length bsk) (length o))
-      → s ≡ answer (muxNumber p (length a) (length b) (length c) (length ksk) (length bsk) (length o))
-      → x ≡ muxOut muxed p a b c ksk bsk o → y ≡ muxOut muxed p a b c ksk bsk o → (r ≡ s) × (x ≡ y)
-  mux-determined e e′ f f′ = (coincide e e′, coincide f f′)
+pub gate-determined : Determined gate.ended gate.Reads.Learnt
+gate-determined κs a x y v w = said-written 6
 
-  -- `mux_naive`
-  pub mux-naive-determined : r ≡ answer (muxNumber p (length a) (length b) (length c) (length ksk) (length bsk) (length o))
-      → s ≡ answer (muxNumber p (length a) (length b) (length c) (length ksk) (length bsk) (length o))
-      → x ≡ muxOut muxedNaive p a b c ksk bsk o → y ≡ muxOut muxedNaive p a b c ksk bsk o → (r ≡ s) × (x ≡ y)
-  mux-naive-determined e e′ f f′ = (coincide e e′, coincide f f′)
+pub nand-determined : Determined nand.ended nand.Reads.Learnt
+nand-determined κs a x y v w = said-written 5
 
-  -- `not`
-  pub not-determined : r ≡ answer (linearNumber p Zero (length a) (length a) (length o)) → s ≡ answer (linearNumber p Zero (length a) (length a) (length o))
-      → x ≡ ifDone (linearNumber p Zero (length a) (length a) (length o)) (negative (p .n + 1) a) o
-      → y ≡ ifDone (linearNumber p Zero (length a) (length a) (length o)) (negative (p .n + 1) a) o → (r ≡ s) × (x ≡ y)
-  not-determined e e′ f f′ = (coincide e e′, coincide f f′)
+pub or-determined : Determined or.ended or.Reads.Learnt
+or-determined κs a x y v w = said-written 5
 
-  -- `copy`
-  pub copy-determined : r ≡ answer (linearNumber p Zero (length a) (length a) (length o)) → s ≡ answer (linearNumber p Zero (length a) (length a) (length o))
-      → x ≡ ifDone (linearNumber p Zero (length a) (length a) (length o)) a o → y ≡ ifDone (linearNumber p Zero (length a) (length a) (length o)) a o → (r ≡ s) × (x ≡ y)
-  copy-determined e e′ f f′ = (coincide e e′, coincide f f′)
+pub and-determined : Determined and.ended and.Reads.Learnt
+and-determined κs a x y v w = said-written 5
 
-  -- `constant`
-  pub constant-determined : (value : Bool) → r ≡ answer (constantNumber p (length o)) → s ≡ answer (constantNumber p (length o))
-      → x ≡ ifDone (constantNumber p (length o)) (constantOf p value) o → y ≡ ifDone (constantNumber p (length o)) (constantOf p value) o → (r ≡ s) × (x ≡ y)
-  constant-determined value e e′ f f′ = (coincide e e′, coincide f f′)
+pub nor-determined : Determined nor.ended nor.Reads.Learnt
+nor-determined κs a x y v w = said-written 5
+
+pub and-ny-determined : Determined and-ny.ended and-ny.Reads.Learnt
+and-ny-determined κs a x y v w = said-written 5
+
+pub and-yn-determined : Determined and-yn.ended and-yn.Reads.Learnt
+and-yn-determined κs a x y v w = said-written 5
+
+pub or-ny-determined : Determined or-ny.ended or-ny.Reads.Learnt
+or-ny-determined κs a x y v w = said-written 5
+
+pub or-yn-determined : Determined or-yn.ended or-yn.Reads.Learnt
+or-yn-determined κs a x y v w = said-written 5
+
+pub xor-determined : Determined xor.ended xor.Reads.Learnt
+xor-determined κs a x y v w = said-written 5
+
+pub xnor-determined : Determined xnor.ended xnor.Reads.Learnt
+xnor-determined κs a x y v w = said-written 5
+
+pub mux-determined : Determined mux.ended mux.Reads.Learnt
+mux-determined κs a x y v w = said-written 6
+
+pub mux-naive-determined : Determined mux-naive.ended mux-naive.Reads.Learnt
+mux-naive-determined κs a x y v w = said-written 6
+
+pub not-determined : Determined not.ended not.Reads.Learnt
+not-determined κs a x y v w = said-written 2
+
+pub copy-determined : Determined copy.ended copy.Reads.Learnt
+copy-determined κs a x y v w = said-written 2
+
+pub constant-determined : Determined constant.ended constant.Reads.Learnt
+constant-determined κs a x y v w = said-written 2

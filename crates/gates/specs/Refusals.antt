@@ -5,13 +5,13 @@ use lib.Dec.{eqb}
 use Rattle.params.specs.declared.Params.{Params}
 use Rattle.params.specs.Refusal.{check}
 use Rattle.params.specs.Ranges.{paramsNumber}
-use Rattle.params.specs.Sizes.{bitWords, switchingRows}
+use Rattle.params.specs.Sizes.{switchingWords, bootstrappingWords}
 
 -- Both keys' lengths, lk of the switching key and ls of the bootstrapping key, then that of the result.
 abbrev pub keysNumber : Params → ℕ → ℕ → ℕ → ℕ
 keysNumber p lk ls lo =
-    check (eqb lk (switchingRows p * (p .n + 1))) 2
-    (check (eqb ls (p .n * bitWords p)) 2
+    check (eqb lk (switchingWords p)) 2
+    (check (eqb ls (bootstrappingWords p)) 2
     (check (eqb lo (p .n + 1)) 2
     0))
 
@@ -41,8 +41,8 @@ pub record GateGood (p : Params) (la lb lk ls lo : ℕ) : Type 0 where
   pub good : paramsNumber p ≡ 0
   pub first : la ≡ p .n + 1
   pub second : lb ≡ p .n + 1
-  pub switching : lk ≡ switchingRows p * (p .n + 1)
-  pub bootstrapping : ls ≡ p .n * bitWords p
+  pub switching : lk ≡ switchingWords p
+  pub bootstrapping : ls ≡ bootstrappingWords p
   pub result : lo ≡ p .n + 1
 
 -- What holds of a `mux` that is not refused.
@@ -51,6 +51,6 @@ pub record MuxGood (p : Params) (la lb lc lk ls lo : ℕ) : Type 0 where
   pub first : la ≡ p .n + 1
   pub second : lb ≡ p .n + 1
   pub third : lc ≡ p .n + 1
-  pub switching : lk ≡ switchingRows p * (p .n + 1)
-  pub bootstrapping : ls ≡ p .n * bitWords p
+  pub switching : lk ≡ switchingWords p
+  pub bootstrapping : ls ≡ bootstrappingWords p
   pub result : lo ≡ p .n + 1

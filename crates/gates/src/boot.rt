@@ -3,7 +3,7 @@ ghost use mathlib.Core.Path.{_≡_};
 ghost use Prim.Native.Nat.{_+_, _*_};
 ghost use lib.ListN.{length};
 ghost use Rattle.params.specs.Ranges.{paramsNumber};
-ghost use Rattle.params.specs.Sizes.{size, bitWords, switchingRows};
+ghost use Rattle.params.specs.Sizes.{size, bootstrappingWords};
 ghost use Rattle.tlwe.specs.Linear.{negative};
 ghost use Rattle.gates.specs.declared.Kind.the-variants.{Or, And, AndNy};
 ghost use Rattle.gates.specs.Sum.{summed};
@@ -26,7 +26,7 @@ fn sample_on(
     rb: &mut [u32],
     out: &mut [u32],
 )
-    requires { ⌜ (paramsNumber p ≡ 0) × (length (now a) ≡ p .n + 1) × (length (now b) ≡ p .n + 1) × (length (now bsk) ≡ p .n * bitWords p) ⌝ }
+    requires { ⌜ (paramsNumber p ≡ 0) × (length (now a) ≡ p .n + 1) × (length (now b) ≡ p .n + 1) × (length (now bsk) ≡ bootstrappingWords p) ⌝ }
     requires { ⌜ (length (now sum) ≡ p .n + 1) × (length (now ra) ≡ size p) × (length (now rb) ≡ size p) × (length (now out) ≡ size p + 1) ⌝ }
     ensures { λ _. ⌜ now (out .exit) ≡ rotatedSample p (now (bsk .entry)) (summed p kind (now (a .entry)) (now (b .entry))) ⌝ }
 {
@@ -37,7 +37,7 @@ fn sample_on(
 
 // The same with its scratch: 12.3 KB.
 fn put_sample(p: Params, kind: Kind, a: &[u32], b: &[u32], bsk: &[u32], out: &mut [u32])
-    requires { ⌜ (paramsNumber p ≡ 0) × (length (now a) ≡ p .n + 1) × (length (now b) ≡ p .n + 1) × (length (now bsk) ≡ p .n * bitWords p) × (length (now out) ≡ size p + 1) ⌝ }
+    requires { ⌜ (paramsNumber p ≡ 0) × (length (now a) ≡ p .n + 1) × (length (now b) ≡ p .n + 1) × (length (now bsk) ≡ bootstrappingWords p) × (length (now out) ≡ size p + 1) ⌝ }
     ensures { λ _. ⌜ now (out .exit) ≡ rotatedSample p (now (bsk .entry)) (summed p kind (now (a .entry)) (now (b .entry))) ⌝ }
 {
     let words = a.len();

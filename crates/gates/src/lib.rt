@@ -13,6 +13,9 @@ mod boot;
 mod sums;
 pub mod wires;
 
+pub use sums::Weights;
+pub use sums::weights_of;
+
 // The two-input gates. What each sums and means stands in one table, specs/Kind.antt.
 pub enum Kind {
     Nand,

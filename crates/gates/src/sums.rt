@@ -11,14 +11,14 @@ use params::Params;
 use tlwe::Level;
 
 // A kind's sum, as words: its multiples of a and b, and what is added to the last word.
-pub(crate) struct Weights {
+pub struct Weights {
     pub a: u32,
     pub b: u32,
     pub added: u32,
 }
 
 // The table's rows in words: 1, -1, 2 and -2; ±1/8 and ±1/4 of a turn.
-fn weights_of(kind: Kind) -> Weights
+pub fn weights_of(kind: Kind) -> Weights
     ensures { λ r. ⌜ r ≡ weightsOf kind ⌝ }
 {
     let one: u32 = 1;

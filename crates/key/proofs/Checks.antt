@@ -2,23 +2,25 @@
 -- Assumes nothing.
 use mathlib.Core.Path.{_≡_, refl, sym, ap, _∙_}
 use Prim.Native.Nat.{ℕ, _+_, _*_, _-_, _^_, _≤_, _<_}
+use native.Mathlib.Decide.{ℕ-discrete}
 use native.Mathlib.Omega.{arith}
 use mathlib.Core.Bool.{Bool, true, false}
 use mathlib.Core.List.{List}
-use borrow.Author.Tests.{eqb-true, ltb-true, eq-eqb, lt-ltb}
+use borrow.Author.Tests.{eqb-true, ltb-true, eq-eqb, ne-eqb, lt-ltb}
 use lib.Dec.{lit<}
 use lib.ListN.{length}
 use Rattle.params.specs.declared.Params.{Params}
 use Rattle.params.specs.declared.Sizes.{Sizes}
 use Rattle.params.specs.Ranges.{paramsNumber, InRange}
 use Rattle.params.specs.Refusal.{check}
-use Rattle.params.specs.Sizes.{size, base, switchingRows, drawingRows, sizesOf, sizesIn}
+use Rattle.params.specs.Sizes.{size, base, drawingRows, bitWords, sizesOf, sizesIn, switchingWords, bootstrappingWords}
 use Rattle.params.proofs.Answers.{passed, when-done}
 use Rattle.params.proofs.Ranges.{in-range, sizes-good, sizes-number}
 use Rattle.key.specs.Offset.{offset, offsetOut}
 use Rattle.key.specs.Testvec.{testNumber}
 use Rattle.tlwe.specs.Key.{binary, keyNumber}
 use Rattle.key.specs.Switching.{lookupNumber}
+use Rattle.key.specs.Bits.{bitRowsNumber}
 use Rattle.key.specs.Generation.{Lent, generateNumber}
 
 module _ (p : Params) {s : Sizes} (e : s ≡ sizesOf p) where
@@ -43,13 +45,20 @@ module _ (p : Params) {s : Sizes} (e : s ≡ sizesOf p) where
   pub noise-of : s .number ≡ 0 → s .ksknoise ≡ drawingRows p
   noise-of z = ap (λ (x : Sizes). x .ksknoise) (lengths z)
 
-  pub key-of : s .number ≡ 0 → s .ksk ≡ switchingRows p * (p .n + 1)
+  pub key-of : s .number ≡ 0 → s .ksk ≡ switchingWords p
   key-of z = ap (λ (x : Sizes). x .ksk) (lengths z)
+
+  pub bits-of : s .number ≡ 0 → s .bsk ≡ bootstrappingWords p
+  bits-of z = ap (λ (x : Sizes). x .bsk) (lengths z)
+
+-- one bit's words, from the record of lengths
+pub bit-of : (p : Params) → paramsNumber p ≡ 0 → {s : Sizes} → s ≡ sizesOf p → s .bit ≡ bitWords p
+bit-of p z e = ap (λ (x : Sizes). x .bit) (e ∙ sizes-good p z)
 
 -- ---- the offset
 
 -- for callers: parameters in range give the offset
-pub offset-done : (p : Params) → paramsNumber p ≡ 0 → offsetOut p .value ≡ offset p
+pub offset-done : (p : Params) → paramsNumber p ≡ 0 → offsetOut p .value .0 ≡ offset p
 unfolding offsetOut
 offset-done p e = when-done (paramsNumber p) (offset p) 0 e
 
@@ -77,7 +86,7 @@ test-done p e = simp (eq-eqb (paramsNumber p) 0 e, eq-eqb (size p) (size p) refl
 
 pub record LookupGood (p : Params) (len i j k : ℕ) : Type 0 where
   pub range : InRange p
-  pub key : len ≡ switchingRows p * (p .n + 1)
+  pub key : len ≡ switchingWords p
   pub outer : i < size p
   pub field : j < p .t
   pub digit : k < base p
@@ -99,10 +108,39 @@ lookup-good p len i j k e =
     }
 
 -- for callers: good arguments are not refused
-pub lookup-done : (p : Params) (len i j k : ℕ) → paramsNumber p ≡ 0 → len ≡ switchingRows p * (p .n + 1) → i < size p → j < p .t → k < base p
+pub lookup-done : (p : Params) (len i j k : ℕ) → paramsNumber p ≡ 0 → len ≡ switchingWords p → i < size p → j < p .t → k < base p
     → lookupNumber p len i j k ≡ 0
 unfolding lookupNumber
 lookup-done p len i j k e l hi hj hk = simp (eq-eqb (paramsNumber p) 0 e, eq-eqb len _ l, lt-ltb i _ hi, lt-ltb j _ hj, lt-ltb k _ hk)
+
+-- the length that `row_index` has from the record is the stated one wherever it is asked for
+pub lookup-sized : (p : Params) {s : Sizes} → s ≡ sizesOf p → (i j k : ℕ) → lookupNumber p (s .ksk) i j k ≡ lookupNumber p (switchingWords p) i j k
+unfolding lookupNumber
+lookup-sized p {s} e i j k = go (ℕ-discrete (paramsNumber p) 0)
+  where
+    go : Dec (paramsNumber p ≡ 0) → lookupNumber p (s .ksk) i j k ≡ lookupNumber p (switchingWords p) i j k
+    go (yes z) = ap (λ (n : ℕ). lookupNumber p n i j k) (ap (λ (x : Sizes). x .ksk) (e ∙ sizes-good p z))
+    go (no h) = simp (ne-eqb (paramsNumber p) 0 h)
+
+-- ---- the lookup of a bit's rows
+
+pub record BitGood (p : Params) (len i : ℕ) : Type 0 where
+  pub range : paramsNumber p ≡ 0
+  pub key : len ≡ bootstrappingWords p
+  pub index : i < p .n
+
+pub bit-good : (p : Params) (len i : ℕ) → bitRowsNumber p len i ≡ 0 → BitGood p len i
+unfolding bitRowsNumber
+bit-good p len i e =
+    let s1 = passed _ _ _ (lit< tt) e in
+    let s2 = passed _ _ _ (lit< tt) (s1 .1) in
+    let s3 = passed _ _ _ (lit< tt) (s2 .1) in
+    record { range = eqb-true _ _ (s1 .0); key = eqb-true _ _ (s2 .0); index = ltb-true _ _ (s3 .0) }
+
+-- for callers: good arguments are not refused
+pub bit-done : (p : Params) (len i : ℕ) → paramsNumber p ≡ 0 → len ≡ bootstrappingWords p → i < p .n → bitRowsNumber p len i ≡ 0
+unfolding bitRowsNumber
+bit-done p len i e l h = simp (eq-eqb (paramsNumber p) 0 e, eq-eqb len _ l, lt-ltb i _ h)
 
 -- ---- generation
 
@@ -116,7 +154,7 @@ key-bad key = go (binary key)
 
 pub record GenerateGood (p : Params) (key z : List ℕ) (masks noise out : ℕ) : Type 0 where
   pub lent : Lent p (length key) (length z) masks noise
-  pub rows : out ≡ switchingRows p * (p .n + 1)
+  pub rows : out ≡ switchingWords p
   pub key-binary : binary key ≡ true
   pub z-binary : binary z ≡ true
 

@@ -1,50 +1,37 @@
--- What the contracts owe (01): two outcomes that a public contract allows coincide, for each routine by the equation that it gives.
+-- Two outcomes that a contract of this crate allows coincide: of the contract itself, as `rattle` reads it from the code, for every public routine (01, 'What the contracts owe').
 -- Assumes nothing.
-use mathlib.Core.Path.{_≡_}
-use mathlib.Core.List.{List, []}
-use Prim.Native.Nat.{ℕ, _%_}
-use lib.ListN.{length}
-use Rattle.ring.specs.Word.{Q}
-use Rattle.params.specs.declared.Params.{Params}
-use Rattle.params.specs.declared.Answer.{Answer}
-use Rattle.params.specs.Refusal.{answer, ifDone}
-use Rattle.params.proofs.Answers.{coincide}
-use Rattle.key.specs.declared.Offset.{Offset}
-use Rattle.key.specs.Offset.{offsetOut}
-use Rattle.key.specs.Testvec.{testNumber, testA, testB}
-use Rattle.key.specs.Switching.{rowIndex, rowPart, lookupNumber}
-use Rattle.key.specs.Generation.{generateNumber, generated}
+use mathlib.Core.Path.{refl}
+use Rattle.ring.proofs.Outcomes.{coincide, Determined, DeterminedAs, said, said-written, said-written-twice}
+use Rattle.key.proofs.decomposition_offset as decomposition-offset
+use Rattle.key.proofs.gen_testvec as gen-testvec
+use Rattle.key.proofs.row_index as row-index
+use Rattle.key.proofs.switching_row_answer as switching-row-answer
+use Rattle.key.proofs.switching_row as switching-row
+use Rattle.key.proofs.gen_key_switching_key as gen-key-switching-key
+use Rattle.key.proofs.bits.bit_rows_answer as bit-rows-answer
+use Rattle.key.proofs.bits.bit_rows as bit-rows
 
-module _ (p : Params) where
-  pub decomposition-offset : {x y : Offset} → x ≡ offsetOut p → y ≡ offsetOut p → x ≡ y
-  decomposition-offset = coincide
+pub decomposition-offset-determined : Determined decomposition-offset.ended decomposition-offset.Reads.Learnt
+decomposition-offset-determined κs a x y v w = said
 
-  module _ (a b : List ℕ) where
-    pub testvec-said : {x y : Answer} → x ≡ answer (testNumber p (length a) (length b)) → y ≡ answer (testNumber p (length a) (length b)) → x ≡ y
-    testvec-said = coincide
+pub gen-testvec-determined : Determined gen-testvec.ended gen-testvec.Reads.Learnt
+gen-testvec-determined κs a x y v w = said-written-twice 1
 
-    pub testvec-first : {x y : List ℕ} → x ≡ ifDone (testNumber p (length a) (length b)) (testA p) a → y ≡ ifDone (testNumber p (length a) (length b)) (testA p) a → x ≡ y
-    testvec-first = coincide
+pub row-index-determined : Determined row-index.ended row-index.Reads.Learnt
+row-index-determined κs a x y v w = said
 
-    pub testvec-second : {x y : List ℕ} → x ≡ ifDone (testNumber p (length a) (length b)) (testB p) b → y ≡ ifDone (testNumber p (length a) (length b)) (testB p) b → x ≡ y
-    testvec-second = coincide
+pub switching-row-answer-determined : Determined switching-row-answer.ended switching-row-answer.Reads.Learnt
+switching-row-answer-determined κs a x y v w = said
 
-  module _ (i j k : ℕ) where
-    pub row-index : {x y : ℕ} → x ≡ rowIndex p i j k % Q → y ≡ rowIndex p i j k % Q → x ≡ y
-    row-index = coincide
+-- of a part that is handed back a caller has its words
+pub switching-row-determined : DeterminedAs switching-row.ended switching-row.Reads.Learnt (λ κs x. Unit {0}) (λ κs x. x .now)
+switching-row-determined κs a x y v w _ _ p q = (coincide p q, refl)
 
-    pub switching-row-answer : (len : ℕ) → {x y : Answer} → x ≡ answer (lookupNumber p len i j k) → y ≡ answer (lookupNumber p len i j k) → x ≡ y
-    switching-row-answer len = coincide
+pub gen-key-switching-key-determined : Determined gen-key-switching-key.ended gen-key-switching-key.Reads.Learnt
+gen-key-switching-key-determined κs a x y v w = said-written 5
 
-    pub switching-row : (key : List ℕ) → {x y : List ℕ} → x ≡ ifDone (lookupNumber p (length key) i j k) (rowPart p key i j k) []
-        → y ≡ ifDone (lookupNumber p (length key) i j k) (rowPart p key i j k) [] → x ≡ y
-    switching-row key = coincide
+pub bit-rows-answer-determined : Determined bit-rows-answer.ended bit-rows-answer.Reads.Learnt
+bit-rows-answer-determined κs a x y v w = said
 
-  module _ (key z masks noise out : List ℕ) where
-    pub generated-said : {x y : Answer} → x ≡ answer (generateNumber p key z (length masks) (length noise) (length out))
-        → y ≡ answer (generateNumber p key z (length masks) (length noise) (length out)) → x ≡ y
-    generated-said = coincide
-
-    pub generated-written : {x y : List ℕ} → x ≡ ifDone (generateNumber p key z (length masks) (length noise) (length out)) (generated p key z masks noise) out
-        → y ≡ ifDone (generateNumber p key z (length masks) (length noise) (length out)) (generated p key z masks noise) out → x ≡ y
-    generated-written = coincide
+pub bit-rows-determined : DeterminedAs bit-rows.ended bit-rows.Reads.Learnt (λ κs x. Unit {0}) (λ κs x. x .now)
+bit-rows-determined κs a x y v w _ _ p q = (coincide p q, refl)

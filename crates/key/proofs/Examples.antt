@@ -1,5 +1,4 @@
--- Document 01's worked example of the offset, the offset where the digits fill the whole word, and a whole switching key at the smallest parameters:
--- computed.
+-- The offset where the digits fill the whole word, and a whole switching key at the smallest parameters: computed. Document 01's own case is in egl_c.
 -- Assumes nothing.
 use mathlib.Core.Path.{_≡_, refl}
 use mathlib.Core.List.{List, [], _∷_}
@@ -12,14 +11,12 @@ use Rattle.key.specs.Offset.{offset}
 use Rattle.key.specs.Switching.{rowIndex, carried}
 use Rattle.key.specs.Generation.{rowOuter, rowField, rowDigit, drawn, rowMasks, rowNoise, drawnRow, generatedRow, joined, generated}
 
--- BGBIT 6, L 3 (01, P), which the 128-bit set has; then L·BGBIT = 32
-pub offsets : (offset (numbers 1 1 6 3 1 1) ≡ 0x82080000)
-    × (offset security128 ≡ 0x82080000)
-    × (offset (numbers 1 1 8 4 1 1) ≡ 0x80808080)
+-- L·BGBIT = 32
+pub offsets : (offset (numbers 1 1 8 4 1 1) ≡ 0x80808080)
     × (offset (numbers 1 1 16 2 1 1) ≡ 0x80008000)
     × (offset (numbers 1 1 1 32 1 1) ≡ 0xFFFFFFFF)
 unfolding offset sumTo Q
-offsets = (refl, refl, refl, refl, refl)
+offsets = (refl, refl, refl)
 
 -- n 1, N 2, BASEBIT 1, T 1: of the four rows the second and the fourth draw
 pub key : generated (numbers 1 1 1 1 1 1) (1 ∷ []) (1 ∷ 0 ∷ []) (5 ∷ 7 ∷ []) (3 ∷ 0xFFFFFFFF ∷ []) ≡ 0 ∷ 0 ∷ 5 ∷ 0x80000008 ∷ 0 ∷ 0 ∷ 7 ∷ 6 ∷ []

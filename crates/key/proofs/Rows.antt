@@ -1,4 +1,4 @@
--- The layout of the switching key: each row lies within the key, and the row's place is worked out modulo 2^32 without loss.
+-- The layout of both keys: each row lies within its key, and a switching row's place is worked out modulo 2^32 without loss.
 -- Products of bounds, and products modulo Q by their factors.
 -- Assumes nothing.
 use mathlib.Core.Path.{_≡_, refl, sym, ap, _∙_}
@@ -12,9 +12,10 @@ use Rattle.ring.specs.Word.{Q}
 use Rattle.ring.proofs.Words.{mul-mod-l}
 use Rattle.params.specs.declared.Params.{Params}
 use Rattle.params.specs.Ranges.{InRange}
-use Rattle.params.specs.Sizes.{size, base, switchingRows}
+use Rattle.params.specs.Sizes.{size, base, switchingRows, switchingWords, bitWords, bootstrappingWords}
 use Rattle.params.proofs.Ranges.{sizes-small, base-to}
-use Rattle.key.specs.Switching.{rowIndex}
+use Rattle.key.specs.Switching.{rowIndex, rowPart}
+use Rattle.key.specs.Bits.{bitRows}
 
 -- the code's way to the place
 pub index-code : (p : Params) (i j k : ℕ) {b f o n s r : ℕ} → b ≡ base p % Q → f ≡ b * p .t % Q → o ≡ f * i % Q → n ≡ b * j % Q → s ≡ (o + n) % Q → r ≡ (s + k) % Q
@@ -38,6 +39,13 @@ pub base-code : (p : Params) → InRange p → {b : ℕ} → b ≡ base p % Q �
 unfolding Q
 base-code p r e = let h = base-to p r in e ∙ mod-eq-of-lt (omega arith)
 
+-- a bit's rows have their words
+pub bit-length : (p : Params) (key : List ℕ) (i : ℕ) → length key ≡ bootstrappingWords p → i < p .n → length (bitRows p key i) ≡ bitWords p
+unfolding bitRows
+bit-length p key i e h =
+    let from : ℕ = i * bitWords p in
+    length-take-le (bitWords p) (drop from key) (rw (length-drop from key, e) (let r = row-ends i (p .n) (bitWords p) h in omega arith))
+
 module _ (p : Params) (i j k : ℕ) (hi : i < size p) (hj : j < p .t) (hk : k < base p) where
   pub row-below : rowIndex p i j k < switchingRows p
   unfolding rowIndex
@@ -46,9 +54,16 @@ module _ (p : Params) (i j k : ℕ) (hi : i < size p) (hj : j < p .t) (hk : k < 
       let b : (i + 1) * p .t * base p ≤ size p * p .t * base p = mul-le-mul-right (base p) (mul-le-mul-right (p .t) (omega arith)) in
       omega arith
 
-  pub row-end : rowIndex p i j k * (p .n + 1) + (p .n + 1) ≤ switchingRows p * (p .n + 1)
+  pub row-end : rowIndex p i j k * (p .n + 1) + (p .n + 1) ≤ switchingWords p
   row-end = let a = mul-le-mul-right (p .n + 1) row-below in omega arith
 
   pub row-small : InRange p → rowIndex p i j k % Q ≡ rowIndex p i j k
   unfolding Q
   row-small r = let a = row-below in let s = sizes-small p r in mod-eq-of-lt (omega arith)
+
+  -- a row has its n + 1 words
+  pub row-length : (key : List ℕ) → length key ≡ switchingWords p → length (rowPart p key i j k) ≡ p .n + 1
+  unfolding rowPart
+  row-length key e =
+      let from : ℕ = rowIndex p i j k * (p .n + 1) in
+      length-take-le (p .n + 1) (drop from key) (rw (length-drop from key, e) (let h = row-end in omega arith))

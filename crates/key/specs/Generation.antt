@@ -11,7 +11,7 @@ use Rattle.ring.specs.Phase.{inner}
 use Rattle.params.specs.declared.Params.{Params}
 use Rattle.params.specs.Refusal.{check}
 use Rattle.params.specs.Ranges.{paramsNumber, InRange}
-use Rattle.params.specs.Sizes.{size, base, switchingRows, drawingRows}
+use Rattle.params.specs.Sizes.{size, base, switchingRows, drawingRows, switchingWords}
 use Rattle.tlwe.specs.Key.{binary}
 use Rattle.key.specs.Switching.{carried}
 
@@ -74,7 +74,7 @@ generateNumber p key z masks noise out =
     (check (eqb (length z) (size p)) 2
     (check (eqb masks (drawingRows p * p .n)) 2
     (check (eqb noise (drawingRows p)) 2
-    (check (eqb out (switchingRows p * (p .n + 1))) 2
+    (check (eqb out (switchingWords p)) 2
     (check (binary key) 4
     (check (binary z) 4
     0)))))))

@@ -13,4 +13,4 @@ offset p = sumTo (p .l) (λ i. 2 ^ (31 - i * p .bgbit)) % Q
 
 -- What `decomposition_offset` hands back: the refusal of the parameters, and the offset, 0 beside a refusal.
 unfoldable pub offsetOut : Params → Offset
-offsetOut p = record { answer = answer (paramsNumber p); value = ifDone (paramsNumber p) (offset p) 0 }
+offsetOut p = record { answer = answer (paramsNumber p); value = record { 0 = ifDone (paramsNumber p) (offset p) 0 } }

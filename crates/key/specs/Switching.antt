@@ -5,10 +5,11 @@ use lib.Dec.{eqb, ltb}
 use lib.ListN.{take, drop}
 use Rattle.ring.specs.Word.{Q, at, neg}
 use Rattle.params.specs.declared.Params.{Params}
-use Rattle.params.specs.Refusal.{check}
+use Rattle.params.specs.Refusal.{check, answer, ifDone}
 use Rattle.params.specs.Ranges.{paramsNumber}
-use Rattle.params.specs.Sizes.{size, base, switchingRows}
+use Rattle.params.specs.Sizes.{size, base, switchingWords}
 use Rattle.tlwe.specs.Key.{phaseOf}
+use Rattle.key.specs.declared.RowPlace.{RowPlace}
 
 -- The place of row (i, j, k) among the rows: for i below N, j below T, k below BASE.
 unfoldable pub rowIndex : Params → ℕ → ℕ → ℕ → ℕ
@@ -30,8 +31,15 @@ rowError p key z rows i j k = (phaseOf (p .n) key (rowPart p rows i j k) + neg (
 unfoldable pub lookupNumber : Params → ℕ → ℕ → ℕ → ℕ → ℕ
 lookupNumber p len i j k =
     check (eqb (paramsNumber p) 0) 1
-    (check (eqb len (switchingRows p * (p .n + 1))) 2
+    (check (eqb len (switchingWords p)) 2
     (check (ltb i (size p)) 3
     (check (ltb j (p .t)) 3
     (check (ltb k (base p)) 3
     0))))
+
+-- What `row_index` hands back: the refusal of a lookup in a key of its stated length, and the row's place, 0 beside a refusal.
+unfoldable pub placeOut : Params → ℕ → ℕ → ℕ → RowPlace
+placeOut p i j k = record {
+  answer = answer (lookupNumber p (switchingWords p) i j k);
+  value = ifDone (lookupNumber p (switchingWords p) i j k) (rowIndex p i j k) 0;
+}

@@ -5,7 +5,7 @@ ghost use Prim.Native.Nat.{_+_, _-_, _*_, _%_, _^_, _≤_, _<_};
 ghost use lib.ListN.{length};
 ghost use Rattle.ring.specs.Word.{Q};
 ghost use Rattle.ring.specs.Phase.{inner};
-ghost use Rattle.params.specs.Sizes.{size, base, switchingRows};
+ghost use Rattle.params.specs.Sizes.{size, base, switchingRows, switchingWords};
 ghost use Rattle.key.specs.Generation.{drawnRow, generatedRow, generated, rowOuter, rowField, rowDigit, Lent};
 use super::fill;
 use params::Params;
@@ -116,7 +116,7 @@ pub(crate) fn generate(
     noise: &[u32],
     out: &mut [u32],
 )
-    requires { ⌜ (Lent p (length (now «key_lv0»)) (length (now «key_lv1»)) (length (now masks)) (length (now noise))) × (length (now out) ≡ switchingRows p * (p .n + 1)) ⌝ }
+    requires { ⌜ (Lent p (length (now «key_lv0»)) (length (now «key_lv1»)) (length (now masks)) (length (now noise))) × (length (now out) ≡ switchingWords p) ⌝ }
     ensures { λ _. ⌜ now (out .exit) ≡ generated p (now («key_lv0» .entry)) (now («key_lv1» .entry)) (now (masks .entry)) (now (noise .entry)) ⌝ }
 {
     let width = p.n as usize + 1;

@@ -1,4 +1,4 @@
-// Key material (src/key.rs): the decomposition offset, the test vector of the gates, the switching key and the lookup of its rows.
+// Key material (src/key.rs): the decomposition offset, the test vector of the gates, the switching key, and the lookup of both keys' rows.
 ghost use mathlib.Core.Path.{_≡_};
 ghost use mathlib.Core.List.{[]};
 ghost use Prim.Native.Nat.{_+_, _-_, _*_, _%_, _^_, _≤_, _<_};
@@ -9,16 +9,26 @@ ghost use Rattle.params.specs.Refusal.{answer, ifDone};
 ghost use Rattle.params.specs.Ranges.{InRange};
 ghost use Rattle.key.specs.Offset.{offset, offsetOut};
 ghost use Rattle.key.specs.Testvec.{testNumber, testA, testB};
-ghost use Rattle.key.specs.Switching.{rowIndex, rowPart, lookupNumber};
+ghost use Rattle.key.specs.Switching.{rowIndex, rowPart, lookupNumber, placeOut};
 ghost use Rattle.key.specs.Generation.{generateNumber, generated};
 
+mod bits;
 mod generate;
 
+pub use bits::bit_rows;
+pub use bits::bit_rows_answer;
 use params::Answer;
 use params::Params;
+use utils::Torus;
 
 // The answer, and the offset beside it: 0 where refused.
 pub struct Offset {
+    pub answer: Answer,
+    pub value: Torus,
+}
+
+// The answer, and a row's place among the rows beside it: 0 where refused.
+pub struct RowPlace {
     pub answer: Answer,
     pub value: u32,
 }
@@ -45,11 +55,14 @@ pub fn decomposition_offset(p: Params) -> Offset
 {
     let answer = params::check(p);
     if answer.number != 0 {
-        return Offset { answer, value: 0 };
+        return Offset {
+            answer,
+            value: Torus(0),
+        };
     }
     Offset {
         answer,
-        value: offset_sum(p),
+        value: Torus(offset_sum(p)),
     }
 }
 
@@ -101,7 +114,7 @@ pub fn gen_testvec(p: Params, a: &mut [u32], b: &mut [u32]) -> Answer
 }
 
 // The place of row (i, j, k) among the rows of the switching key, taken modulo 2^32: a key in range has far fewer rows (`row-small`).
-pub fn row_index(p: Params, i: u32, j: u32, k: u32) -> u32
+fn place_of(p: Params, i: u32, j: u32, k: u32) -> u32
     ensures { λ r. ⌜ r ≡ rowIndex p i j k % Q ⌝ }
 {
     let base = ring::power(p.basebit);
@@ -133,6 +146,24 @@ fn lookup_number(p: Params, len: usize, i: usize, j: usize, k: usize) -> u32
     0
 }
 
+// The place of row (i, j, k) among the rows of the switching key: its first word stands at (n + 1) times this. Refusals: 1, 3.
+pub fn row_index(p: Params, i: usize, j: usize, k: usize) -> RowPlace
+    ensures { λ r. ⌜ r ≡ placeOut p i j k ⌝ }
+{
+    let s = params::sizes_of(p);
+    let number = lookup_number(p, s.ksk, i, j, k);
+    if number != 0 {
+        return RowPlace {
+            answer: Answer { number, place: 0 },
+            value: 0,
+        };
+    }
+    RowPlace {
+        answer: Answer { number, place: 0 },
+        value: place_of(p, i as u32, j as u32, k as u32),
+    }
+}
+
 // What a lookup of row (i, j, k) in a switching key of so many words is answered. Refusals: 1, 2, 3.
 pub fn switching_row_answer(p: Params, length: usize, i: usize, j: usize, k: usize) -> Answer
     ensures { λ r. ⌜ r ≡ answer (lookupNumber p length i j k) ⌝ }
@@ -150,7 +181,7 @@ pub fn switching_row(p: Params, key: &[u32], i: usize, j: usize, k: usize) -> &[
     if lookup_number(p, key.len(), i, j, k) != 0 {
         return &key[..0];
     }
-    let row = row_index(p, i as u32, j as u32, k as u32) as usize;
+    let row = place_of(p, i as u32, j as u32, k as u32) as usize;
     let width = p.n as usize + 1;
     let at = row * width;
     let end = at + width;

@@ -1,7 +1,6 @@
--- How a routine's proof goes out of the refusal table and back: a check that comes to 0 has passed, a refusal keeps what was lent, and what a
--- contract gives by an equation is determined by it.
+-- How a routine's proof goes out of the refusal table and back: a check that comes to 0 has passed, and a refusal keeps what was lent.
 -- Assumes nothing.
-use mathlib.Core.Path.{_≡_, refl, sym, ap, _∙_}
+use mathlib.Core.Path.{_≡_, refl}
 use mathlib.Core.Bool.{Bool, true, false}
 use Prim.Native.Nat.{ℕ, _≤_, _<_}
 use native.Mathlib.Omega.{arith}
@@ -28,7 +27,3 @@ module _ {A : Type 0} (number : ℕ) (new old : A) where
 
   pub when-refused : (number ≡ 0 → ⊥) → ifDone number new old ≡ old
   when-refused h = rw (ne-eqb number 0 h)
-
--- two outcomes that a contract gives by one equation coincide (01, 'What the contracts owe')
-pub coincide : {A : Type 0} {x y v : A} → x ≡ v → y ≡ v → x ≡ y
-coincide e f = e ∙ sym f

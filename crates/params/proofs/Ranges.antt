@@ -1,12 +1,12 @@
--- Parameters that are not refused lie in their ranges, and then every length is small: the table is taken apart check by check, and the bounds are
--- products of bounds.
+-- Parameters that are not refused lie in their ranges, and the other way round, and then every length is small: the table is taken apart check by check and put
+-- together again, and the bounds are products of bounds.
 -- Assumes nothing.
 use mathlib.Core.Path.{_≡_, refl, sym, ap, _∙_}
 use Prim.Native.Nat.{ℕ, _+_, _-_, _*_, _^_, _≤_, _<_}
 use native.Mathlib.Nat.{mul-le-mul, le-mul-of-pos-right, mul-comm}
 use native.Mathlib.Decide.{ℕ-discrete}
 use native.Mathlib.Omega.{arith}
-use borrow.Author.Tests.{leb-true, eq-eqb, ne-eqb}
+use borrow.Author.Tests.{leb-true, le-leb, eq-eqb, ne-eqb}
 use lib.Dec.{lit<}
 use lib.Pow.{pow-mono, pow-pos}
 use Rattle.params.specs.declared.Params.{Params}
@@ -45,6 +45,25 @@ in-range p e =
       t-from = leb-true _ _ (s11 .0);
       fields-to = leb-true _ _ (s12 .0);
     }
+
+-- and the other way round: numbers in their ranges are not refused
+pub not-refused : (p : Params) → InRange p → paramsNumber p ≡ 0
+unfolding paramsNumber switchingNumber
+not-refused p r =
+    simp (
+      le-leb _ _ (r .n-from),
+      le-leb _ _ (r .n-to),
+      le-leb _ _ (r .nbit-from),
+      le-leb _ _ (r .nbit-to),
+      le-leb _ _ (r .bgbit-from),
+      le-leb _ _ (r .bgbit-to),
+      le-leb _ _ (r .l-from),
+      le-leb _ _ (r .digits-to),
+      le-leb _ _ (r .basebit-from),
+      le-leb _ _ (r .basebit-to),
+      le-leb _ _ (r .t-from),
+      le-leb _ _ (r .fields-to),
+    )
 
 -- ---- bounds
 

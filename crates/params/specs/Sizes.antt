@@ -25,6 +25,14 @@ drawingRows p = size p * p .t * (base p - 1)
 abbrev pub bitWords : Params → ℕ
 bitWords p = (p .l + p .l) * (size p + size p)
 
+-- The words of the switching key: its rows of n + 1 words.
+abbrev pub switchingWords : Params → ℕ
+switchingWords p = switchingRows p * (p .n + 1)
+
+-- The words of the bootstrapping key: one part for each bit of the level-0 key.
+abbrev pub bootstrappingWords : Params → ℕ
+bootstrappingWords p = p .n * bitWords p
+
 -- Every length, for parameters in range.
 abbrev pub sizesIn : Params → Sizes
 sizesIn p = record {
@@ -33,11 +41,11 @@ sizesIn p = record {
   size = size p;
   level0 = p .n + 1;
   level1 = size p + 1;
-  ksk = switchingRows p * (p .n + 1);
+  ksk = switchingWords p;
   kskmasks = drawingRows p * p .n;
   ksknoise = drawingRows p;
   bit = bitWords p;
-  bsk = p .n * bitWords p;
+  bsk = bootstrappingWords p;
   bitmasks = (p .l + p .l) * size p;
   bskmasks = p .n * ((p .l + p .l) * size p);
 }

@@ -1,20 +1,11 @@
--- What a contract allows is determined by it: two outcomes of one call coincide (01, 'What the contracts owe').
+-- Two outcomes that a contract of this crate allows coincide: of the contract itself, as `rattle` reads it from the code, for every public routine (01, 'What the contracts owe').
 -- Assumes nothing.
-use mathlib.Core.Path.{_≡_}
-use mathlib.Core.List.{List}
-use lib.ListN.{length}
-use Prim.Native.Nat.{ℕ}
-use Rattle.params.specs.declared.Params.{Params}
-use Rattle.params.specs.declared.Answer.{Answer}
-use Rattle.params.specs.Refusal.{answer}
-use Rattle.params.proofs.Answers.{coincide}
-use Rattle.product.specs.Product.{productNumber, polyMulOut, polyMulAddOut}
+use Rattle.ring.proofs.Outcomes.{Determined, said-written}
+use Rattle.product.proofs.poly_mul as poly-mul
+use Rattle.product.proofs.poly_mul_add as poly-mul-add
 
-module _ (p : Params) (a b o : List ℕ) {r r′ : Answer} {out out′ : List ℕ} where
-  pub poly-mul-determined : r ≡ answer (productNumber p (length a) (length b) (length o)) → r′ ≡ answer (productNumber p (length a) (length b) (length o))
-      → out ≡ polyMulOut p a b o → out′ ≡ polyMulOut p a b o → (r ≡ r′) × (out ≡ out′)
-  poly-mul-determined e e′ w w′ = (coincide e e′, coincide w w′)
+pub poly-mul-determined : Determined poly-mul.ended poly-mul.Reads.Learnt
+poly-mul-determined κs a x y v w = said-written 3
 
-  pub poly-mul-add-determined : r ≡ answer (productNumber p (length a) (length b) (length o)) → r′ ≡ answer (productNumber p (length a) (length b) (length o))
-      → out ≡ polyMulAddOut p a b o → out′ ≡ polyMulAddOut p a b o → (r ≡ r′) × (out ≡ out′)
-  poly-mul-add-determined e e′ w w′ = (coincide e e′, coincide w w′)
+pub poly-mul-add-determined : Determined poly-mul-add.ended poly-mul-add.Reads.Learnt
+poly-mul-add-determined κs a x y v w = said-written 3

@@ -16,7 +16,8 @@ fn set_0() -> Params {
 fn key_decomposition_offset() {
     let r = key::decomposition_offset(set_0());
     let answer = r.answer;
-    show::word(b"key_decomposition_offset", answer, r.value);
+    let value = r.value;
+    show::word(b"key_decomposition_offset", answer, value.0);
 }
 
 fn key_gen_testvec() {
@@ -43,6 +44,14 @@ fn key_gen_key_switching_key() {
     ];
     let r = key::gen_key_switching_key(set_0(), &key_lv0, &key_lv1, &masks, &noise, &mut out);
     show::words(b"key_gen_key_switching_key", r, &out);
+    show::row(
+        b"key_switching_row",
+        key::switching_row(set_0(), &out, 0x1, 0x0, 0x1),
+    );
+    show::row(
+        b"key_switching_row",
+        key::switching_row(set_0(), &out, 0x2, 0x0, 0x0),
+    );
 }
 
 pub fn run() {

@@ -1,5 +1,6 @@
 // What a case prints: a line with the routine, the refusal's number, and the words of each slice that it was lent to write, or the value beside the answer.
 use params::Answer;
+use params::Params;
 
 // The routine, the number and the words of one slice.
 pub fn words(name: &[u8], r: Answer, s: &[u32]) {
@@ -39,6 +40,19 @@ pub fn wide(name: &[u8], r: Answer, x: u64) {
     bar();
     hex(x % 0x1_0000_0000);
     end();
+}
+
+// The routine and the words of a part of a slice.
+pub fn row(name: &[u8], s: &[u32]) {
+    let _n = io::write_all(1, name);
+    all_words(s);
+    end();
+}
+
+// A name and the six numbers of a parameter set.
+pub fn set(name: &[u8], p: Params) {
+    let six = [p.n, p.nbit, p.bgbit, p.l, p.basebit, p.t];
+    row(name, &six);
 }
 
 // The routine and the number.

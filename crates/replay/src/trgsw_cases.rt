@@ -27,7 +27,14 @@ fn trgsw_encrypt_torus() {
         0x49fda1bb,
         0xa929981b,
     ];
-    let r = bootstrapping::encrypt_torus(set_0(), 0x7fffffff, &masks, &noise, &key_lv1, &mut out);
+    let r = bootstrapping::encrypt_torus(
+        set_0(),
+        utils::Torus(0x7fffffff),
+        &masks,
+        &noise,
+        &key_lv1,
+        &mut out,
+    );
     show::words(b"trgsw_encrypt_torus", r, &out);
 }
 

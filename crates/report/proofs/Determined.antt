@@ -1,14 +1,7 @@
--- `describe`'s contract determines its answer and what it writes: two outcomes that it allows are equal (01, 'What the contracts owe').
+-- Two outcomes that a contract of this crate allows coincide: of the contract itself, as `rattle` reads it from the code, for every public routine (01, 'What the contracts owe').
 -- Assumes nothing.
-use mathlib.Core.Path.{_≡_}
-use mathlib.Core.List.{List}
-use Prim.Native.Nat.{ℕ}
-use Rattle.params.proofs.Answers.{coincide}
-use Rattle.report.specs.declared.Described.{Described}
-use Rattle.report.specs.Text.{describeAnswer, describeOut}
+use Rattle.ring.proofs.Outcomes.{Determined, said-written}
+use Rattle.report.proofs.describe as describe
 
-pub describe-once : (bs : List ℕ) (room : ℕ) (r s : Described) → r ≡ describeAnswer bs room → s ≡ describeAnswer bs room → r ≡ s
-describe-once bs room r s = coincide
-
-pub describe-written-once : (bs out x y : List ℕ) → x ≡ describeOut bs out → y ≡ describeOut bs out → x ≡ y
-describe-written-once bs out x y = coincide
+pub describe-determined : Determined describe.ended describe.Reads.Learnt
+describe-determined κs a x y v w = said-written 1

@@ -93,11 +93,15 @@ refusedText a = named refusedWord (a .number) ++ named atWord (a .place) ++ (10 
 unfoldable pub textOf : List ℕ → List ℕ
 textOf bs = ifDone (answerOf bs .number) (headText bs ++ tableText bs) (refusedText (answerOf bs))
 
+-- How much room is kept for a text: `text-fits` of proofs/Lengths.antt shows that none is longer.
+abbrev pub room : ℕ
+room = 1280
+
 -- ---- the routine
 
 -- 2 where the lent slice is shorter than the text.
 unfoldable pub describeNumber : List ℕ → ℕ → ℕ
-describeNumber bs room = check (leb (length (textOf bs)) room) 2 0
+describeNumber bs most = check (leb (length (textOf bs)) most) 2 0
 
 -- The text in front, and what was there behind it; all as it was where refused.
 unfoldable pub describeOut : List ℕ → List ℕ → List ℕ
@@ -109,4 +113,4 @@ described a n = record { answer = a; length = n }
 
 -- The answer and the text's length, 0 where refused.
 unfoldable pub describeAnswer : List ℕ → ℕ → Described
-describeAnswer bs room = described (answer (describeNumber bs room)) (ifDone (describeNumber bs room) (length (textOf bs)) 0)
+describeAnswer bs most = described (answer (describeNumber bs most)) (ifDone (describeNumber bs most) (length (textOf bs)) 0)

@@ -15,4 +15,6 @@ pub mod Turns
 pub mod Extract
 pub mod Whole
 pub mod Centre
+pub mod Outcomes
 pub mod Examples
+pub mod Determined

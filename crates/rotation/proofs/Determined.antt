@@ -1,31 +1,15 @@
--- Two outcomes that a contract of this crate allows coincide: each contract is an equation for each thing that a call leaves behind.
+-- Two outcomes that a contract of this crate allows coincide: of the contract itself, as `rattle` reads it from the code, for every public routine (01, 'What the contracts owe').
 -- Assumes nothing.
-use mathlib.Core.Path.{_≡_}
-use mathlib.Core.List.{List}
-use Prim.Native.Nat.{ℕ}
-use lib.ListN.{length}
-use Rattle.params.specs.declared.Params.{Params}
-use Rattle.params.specs.declared.Answer.{Answer}
-use Rattle.params.specs.Refusal.{answer, ifDone}
-use Rattle.params.specs.Sizes.{size}
-use Rattle.params.proofs.Answers.{coincide}
-use Rattle.ring.specs.Turn.{rotated}
-use Rattle.rotation.specs.Amount.{maskAmount, bodyAmount, roundedTo}
-use Rattle.rotation.specs.Rotate.{rotateNumber}
-use Rattle.rotation.specs.declared.Rounded.{Rounded}
+use Rattle.ring.proofs.Outcomes.{Determined, said, said-written}
+use Rattle.rotation.proofs.poly_mul_with_x_k as poly-mul-with-x-k
+use Rattle.rotation.proofs.mask_amount as mask-amount
+use Rattle.rotation.proofs.body_amount as body-amount
 
--- `poly_mul_with_x_k`: the answer, and what is written
-pub rotate-answer : (p : Params) (la lo k : ℕ) (r s : Answer) → r ≡ answer (rotateNumber p la lo k) → s ≡ answer (rotateNumber p la lo k) → r ≡ s
-rotate-answer p la lo k r s = coincide
+pub poly-mul-with-x-k-determined : Determined poly-mul-with-x-k.ended poly-mul-with-x-k.Reads.Learnt
+poly-mul-with-x-k-determined κs a x y v w = said-written 3
 
-pub rotate-written : (p : Params) (a o : List ℕ) (k : ℕ) (x y : List ℕ)
-    → x ≡ ifDone (rotateNumber p (length a) (length o) k) (rotated (size p) k a) o
-    → y ≡ ifDone (rotateNumber p (length a) (length o) k) (rotated (size p) k a) o → x ≡ y
-rotate-written p a o k x y = coincide
+pub mask-amount-determined : Determined mask-amount.ended mask-amount.Reads.Learnt
+mask-amount-determined κs a x y v w = said
 
--- `mask_amount` and `body_amount`
-pub mask-determined : (p : Params) (x : ℕ) (r s : Rounded) → r ≡ roundedTo p (maskAmount p x) → s ≡ roundedTo p (maskAmount p x) → r ≡ s
-mask-determined p x r s = coincide
-
-pub body-determined : (p : Params) (b : ℕ) (r s : Rounded) → r ≡ roundedTo p (bodyAmount p b) → s ≡ roundedTo p (bodyAmount p b) → r ≡ s
-body-determined p b r s = coincide
+pub body-amount-determined : Determined body-amount.ended body-amount.Reads.Learnt
+body-amount-determined κs a x y v w = said

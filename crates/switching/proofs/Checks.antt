@@ -10,7 +10,7 @@ use Rattle.params.specs.declared.Params.{Params}
 use Rattle.params.specs.declared.Answer.{Answer}
 use Rattle.params.specs.Refusal.{answer, ifDone}
 use Rattle.params.specs.Ranges.{paramsNumber}
-use Rattle.params.specs.Sizes.{size, switchingRows}
+use Rattle.params.specs.Sizes.{size, switchingWords}
 use Rattle.params.proofs.Answers.{passed, when-done}
 use Rattle.params.proofs.Ranges.{in-range}
 use Rattle.ring.proofs.Tab.{length-tab}
@@ -32,13 +32,13 @@ module _ (p : Params) (ls lk lo : ℕ) where
       }
 
   -- good arguments are not refused
-  pub switch-done : paramsNumber p ≡ 0 → ls ≡ size p + 1 → lk ≡ switchingRows p * (p .n + 1) → lo ≡ p .n + 1 → switchNumber p ls lk lo ≡ 0
+  pub switch-done : paramsNumber p ≡ 0 → ls ≡ size p + 1 → lk ≡ switchingWords p → lo ≡ p .n + 1 → switchNumber p ls lk lo ≡ 0
   unfolding switchNumber
-  switch-done e s k o = simp (eq-eqb (paramsNumber p) 0 e, eq-eqb ls (size p + 1) s, eq-eqb lk (switchingRows p * (p .n + 1)) k, eq-eqb lo (p .n + 1) o)
+  switch-done e s k o = simp (eq-eqb (paramsNumber p) 0 e, eq-eqb ls (size p + 1) s, eq-eqb lk (switchingWords p) k, eq-eqb lo (p .n + 1) o)
 
 -- ---- for callers, at good arguments
 
-module _ (p : Params) (src key o : List ℕ) (e : paramsNumber p ≡ 0) (ls : length src ≡ size p + 1) (lk : length key ≡ switchingRows p * (p .n + 1)) (lo : length o ≡ p .n + 1) where
+module _ (p : Params) (src key o : List ℕ) (e : paramsNumber p ≡ 0) (ls : length src ≡ size p + 1) (lk : length key ≡ switchingWords p) (lo : length o ≡ p .n + 1) where
   -- the call did its work
   pub switch-answered : {r : Answer} → r ≡ answer (switchNumber p (length src) (length key) (length o)) → r ≡ answer 0
   switch-answered q = q ∙ ap answer (switch-done p (length src) (length key) (length o) e ls lk lo)

@@ -1,20 +1,7 @@
--- Two outcomes that the contract of key switching allows coincide: it is an equation for each thing that a call leaves behind.
+-- Two outcomes that a contract of this crate allows coincide: of the contract itself, as `rattle` reads it from the code, for every public routine (01, 'What the contracts owe').
 -- Assumes nothing.
-use mathlib.Core.Path.{_≡_}
-use mathlib.Core.List.{List}
-use Prim.Native.Nat.{ℕ}
-use lib.ListN.{length}
-use Rattle.params.specs.declared.Params.{Params}
-use Rattle.params.specs.declared.Answer.{Answer}
-use Rattle.params.specs.Refusal.{answer, ifDone}
-use Rattle.params.proofs.Answers.{coincide}
-use Rattle.switching.specs.Switched.{switchNumber, switched}
+use Rattle.ring.proofs.Outcomes.{Determined, said-written}
+use Rattle.switching.proofs.identity_key_switching as identity-key-switching
 
--- `identity_key_switching`: the answer, and what is written
-pub switch-answer : (p : Params) (ls lk lo : ℕ) (r s : Answer) → r ≡ answer (switchNumber p ls lk lo) → s ≡ answer (switchNumber p ls lk lo) → r ≡ s
-switch-answer p ls lk lo r s = coincide
-
-pub switch-content : (p : Params) (src key o x y : List ℕ)
-    → x ≡ ifDone (switchNumber p (length src) (length key) (length o)) (switched p key src) o
-    → y ≡ ifDone (switchNumber p (length src) (length key) (length o)) (switched p key src) o → x ≡ y
-switch-content p src key o x y = coincide
+pub identity-key-switching-determined : Determined identity-key-switching.ended identity-key-switching.Reads.Learnt
+identity-key-switching-determined κs a x y v w = said-written 3

@@ -1,19 +1,17 @@
--- What a field takes: nothing where it is 0, else its row, which is that part of the key.
+-- What a field takes: nothing where it is 0, else its row.
 -- Assumes nothing.
-use mathlib.Core.Path.{_≡_, refl, sym, ap, ap₂, _∙_}
+use mathlib.Core.Path.{_≡_, refl, sym}
 use mathlib.Core.Bool.{Bool, true, false, cond}
 use mathlib.Core.List.{List}
-use Prim.Native.Nat.{ℕ, _+_, _*_, _-_, _%_, _≤_, _<_}
-use native.Mathlib.Nat.{add-sub-cancel-left, mod-eq-of-lt}
-use native.Mathlib.Omega.{arith}
+use Prim.Native.Nat.{ℕ, _<_}
 use lib.Dec.{eqb}
-use lib.ListN.{length, take, drop}
+use lib.ListN.{length}
 use borrow.Author.Tests.{eq-eqb, ne-eqb}
 use Rattle.params.specs.declared.Params.{Params}
 use Rattle.ring.specs.Word.{Q, Q-pos, at, neg}
 use Rattle.ring.specs.Sums.{tab}
 use Rattle.ring.proofs.Tab.{tab-of}
-use Rattle.key.specs.Switching.{rowIndex, rowPart}
+use Rattle.key.specs.Switching.{rowPart}
 use Rattle.switching.specs.Switched.{used, takes, startWord}
 
 pub used-none : (k f : ℕ) → k ≡ 0 → used k f ≡ 0
@@ -32,13 +30,6 @@ module _ (p : Params) (key : List ℕ) (i j k x : ℕ) where
   pub takes-row : (k ≡ 0 → ⊥) → neg (at (rowPart p key i j k) x) ≡ takes p key i j k x
   unfolding takes
   takes-row h = sym (used-row k _ h)
-
--- the code's part of the key
-pub part-is : (p : Params) (key : List ℕ) (i j k : ℕ) {r m : ℕ} → r ≡ rowIndex p i j k → m ≡ p .n + 1 → take (r * m + m - r * m) (drop (r * m) key) ≡ rowPart p key i j k
-unfolding rowPart
-part-is p key i j k {r} {m} er em =
-    ap (λ (n : ℕ). take n (drop (r * m) key)) (add-sub-cancel-left (r * m) m)
-    ∙ ap₂ (λ (a b : ℕ). take b (drop (a * b) key)) er em
 
 -- ---- where the loops start
 

@@ -6,7 +6,7 @@ use lib.Dec.{eqb}
 use Rattle.params.specs.declared.Params.{Params}
 use Rattle.params.specs.Refusal.{check}
 use Rattle.params.specs.Ranges.{paramsNumber, InRange}
-use Rattle.params.specs.Sizes.{size, base, switchingRows}
+use Rattle.params.specs.Sizes.{size, base, switchingWords}
 use Rattle.ring.specs.Word.{Q, at, neg}
 use Rattle.ring.specs.Sums.{sumTo, tab}
 use Rattle.key.specs.Switching.{rowPart}
@@ -17,7 +17,7 @@ unfoldable pub switchNumber : Params → ℕ → ℕ → ℕ → ℕ
 switchNumber p ls lk lo =
     check (eqb (paramsNumber p) 0) 1
     (check (eqb ls (size p + 1)) 2
-    (check (eqb lk (switchingRows p * (p .n + 1))) 2
+    (check (eqb lk (switchingWords p)) 2
     (check (eqb lo (p .n + 1)) 2
     0)))
 
@@ -62,5 +62,5 @@ switched p key src =
 pub record SwitchGood (p : Params) (ls lk lo : ℕ) : Type 0 where
   pub range : InRange p
   pub from : ls ≡ size p + 1
-  pub rows : lk ≡ switchingRows p * (p .n + 1)
+  pub rows : lk ≡ switchingWords p
   pub into : lo ≡ p .n + 1

@@ -6,11 +6,11 @@ ghost use Prim.Native.Nat.{_+_, _*_, _-_, _^_, _≤_, _<_};
 ghost use lib.ListN.{length};
 ghost use Rattle.params.specs.Refusal.{answer, ifDone};
 ghost use Rattle.params.specs.Ranges.{InRange};
-ghost use Rattle.params.specs.Sizes.{size, base, switchingRows};
+ghost use Rattle.params.specs.Sizes.{size, base, switchingWords};
 ghost use Rattle.ring.specs.Word.{at, neg};
 ghost use Rattle.ring.specs.Sums.{sumTo, tab};
 ghost use Rattle.ring.specs.Loop.{addBy};
-ghost use Rattle.key.specs.Switching.{rowPart, rowIndex};
+ghost use Rattle.key.specs.Switching.{rowPart};
 ghost use Rattle.switching.specs.Switched.{switchNumber, rounding, weight, fieldOf, takes, startWord, switched};
 use params::Answer;
 use params::Params;
@@ -90,21 +90,19 @@ fn sub_row(row: &[u32], out: &mut [u32])
 
 // out less the row of a field k, which is not looked at where the field is 0.
 fn use_field(p: Params, ksk: &[u32], i: u32, j: u32, k: u32, out: &mut [u32])
-    requires { ⌜ InRange p × (i < size p) × (j < p .t) × (k < base p) × (length (now ksk) ≡ switchingRows p * (p .n + 1)) × (length (now out) ≡ p .n + 1) ⌝ }
+    requires { ⌜ InRange p × (i < size p) × (j < p .t) × (k < base p) × (length (now ksk) ≡ switchingWords p) × (length (now out) ≡ p .n + 1) ⌝ }
     ensures { λ _. ⌜ now (out .exit) ≡ addBy (now (out .entry)) (takes p (now (ksk .entry)) i j k) ⌝ }
 {
     if k == 0 {
         return;
     }
-    let m = out.len();
-    let first = key::row_index(p, i, j, k) as usize * m;
-    let end = first + m;
-    sub_row(&ksk[first..end], out);
+    let row = key::switching_row(p, ksk, i as usize, j as usize, k as usize);
+    sub_row(row, out);
 }
 
 // out less the rows of the fields of a mask, its rounding added.
 fn use_mask(p: Params, ksk: &[u32], i: u32, a: u32, out: &mut [u32])
-    requires { ⌜ InRange p × (i < size p) × (length (now ksk) ≡ switchingRows p * (p .n + 1)) × (length (now out) ≡ p .n + 1) ⌝ }
+    requires { ⌜ InRange p × (i < size p) × (length (now ksk) ≡ switchingWords p) × (length (now out) ≡ p .n + 1) ⌝ }
     ensures { λ _. ⌜ now (out .exit) ≡ addBy (now (out .entry)) (λ x. sumTo (p .t) (λ j. takes p (now (ksk .entry)) i j (fieldOf p a j) x)) ⌝ }
 {
     let t = p.t;
@@ -117,7 +115,7 @@ fn use_mask(p: Params, ksk: &[u32], i: u32, a: u32, out: &mut [u32])
 
 // The switched sample: every word of out is written.
 fn switch_into(p: Params, src: &[u32], ksk: &[u32], out: &mut [u32])
-    requires { ⌜ InRange p × (length (now src) ≡ size p + 1) × (length (now ksk) ≡ switchingRows p * (p .n + 1)) × (length (now out) ≡ p .n + 1) ⌝ }
+    requires { ⌜ InRange p × (length (now src) ≡ size p + 1) × (length (now ksk) ≡ switchingWords p) × (length (now out) ≡ p .n + 1) ⌝ }
     ensures { λ _. ⌜ now (out .exit) ≡ switched p (now (ksk .entry)) (now (src .entry)) ⌝ }
 {
     let size = src.len() - 1;

@@ -1,87 +1,53 @@
--- What a contract allows is determined by it: two outcomes of one call coincide (01, 'What the contracts owe'). Each contract gives the answer and the
--- content of the lent slice, or the value, by equations.
+-- Two outcomes that a contract of this crate allows coincide: of the contract itself, as `rattle` reads it from the code, for every public routine (01, 'What the contracts owe').
 -- Assumes nothing.
-use mathlib.Core.Path.{_≡_}
-use mathlib.Core.Bool.{Bool}
-use mathlib.Core.List.{List}
-use Prim.Native.Nat.{ℕ}
-use lib.ListN.{length}
-use Rattle.ring.specs.Poly.{plus, minus, scale}
-use Rattle.params.specs.declared.Params.{Params}
-use Rattle.params.specs.declared.Answer.{Answer}
-use Rattle.params.specs.Refusal.{answer}
-use Rattle.params.proofs.Answers.{coincide}
-use Rattle.tlwe.specs.declared.Level.{Level}
-use Rattle.tlwe.specs.declared.Plain.{Plain}
-use Rattle.tlwe.specs.Level.{words, dimensionOf}
-use Rattle.tlwe.specs.Linear.{linearNumber, linearOut, negative}
-use Rattle.tlwe.specs.Key.{keyNumber, keyedNumber, phaseValue}
-use Rattle.tlwe.specs.Plain.{modulusNumber}
-use Rattle.tlwe.specs.Encrypt.{encryptNumber, encryptOut}
-use Rattle.tlwe.specs.Decrypt.{bitValue, messageValue}
+use mathlib.Core.Path.{refl}
+use Rattle.ring.proofs.Outcomes.{coincide, Determined, said, said-written}
+use Rattle.tlwe.proofs.decryption.decrypt_bit as decrypt-bit
+use Rattle.tlwe.proofs.decryption.decrypt_message as decrypt-message
+use Rattle.tlwe.proofs.encryption.encrypt as encrypt
+use Rattle.tlwe.proofs.keys.key_number as key-number
+use Rattle.tlwe.proofs.keys.phase_of as phase-of
+use Rattle.tlwe.proofs.linear.combine as combine
+use Rattle.tlwe.proofs.linear.add as add
+use Rattle.tlwe.proofs.linear.sub as sub
+use Rattle.tlwe.proofs.linear.neg as neg
+use Rattle.tlwe.proofs.linear.add_mul as add-mul
+use Rattle.tlwe.proofs.linear.sub_mul as sub-mul
+use Rattle.tlwe.proofs.plaintexts.modulus_number as modulus-number
 
--- ---- sums and multiples
+-- the contracts of the three below speak of the result field by field
+pub decrypt-bit-determined : Determined decrypt-bit.ended decrypt-bit.Reads.Learnt
+decrypt-bit-determined κs a x y v w p q = (λ i. record { answer = coincide (p .0) (q .0) i; value = coincide (p .1) (q .1) i }, refl)
 
-module _ (p : Params) (level : Level) (a b o : List ℕ) where
-  -- what the contract of an operation with this content allows
-  abbrev Allowed : List ℕ → Answer → List ℕ → Type 0
-  Allowed content r out = (r ≡ answer (linearNumber p level (length a) (length b) (length o))) × (out ≡ linearOut p level a b o content)
+pub decrypt-message-determined : Determined decrypt-message.ended decrypt-message.Reads.Learnt
+decrypt-message-determined κs a x y v w p q = (λ i. record { answer = coincide (p .0) (q .0) i; value = coincide (p .1) (q .1) i }, refl)
 
-  same : (content : List ℕ) {r r′ : Answer} {out out′ : List ℕ} → Allowed content r out → Allowed content r′ out′ → (r ≡ r′) × (out ≡ out′)
-  same content e e′ = (coincide (e .0) (e′ .0), coincide (e .1) (e′ .1))
+pub encrypt-determined : Determined encrypt.ended encrypt.Reads.Learnt
+encrypt-determined κs a x y v w = said-written 6
 
-  module _ {r r′ : Answer} {out out′ : List ℕ} where
-    pub combine-determined : (x y : ℕ) → Allowed (plus (words p level) (scale (words p level) x a) (scale (words p level) y b)) r out
-        → Allowed (plus (words p level) (scale (words p level) x a) (scale (words p level) y b)) r′ out′ → (r ≡ r′) × (out ≡ out′)
-    combine-determined x y = same _
+pub key-number-determined : Determined key-number.ended key-number.Reads.Learnt
+key-number-determined κs a x y v w = said
 
-    pub add-determined : Allowed (plus (words p level) a b) r out → Allowed (plus (words p level) a b) r′ out′ → (r ≡ r′) × (out ≡ out′)
-    add-determined = same _
+pub phase-of-determined : Determined phase-of.ended phase-of.Reads.Learnt
+phase-of-determined κs a x y v w p q = (λ i. record { answer = coincide (p .0) (q .0) i; value = record { 0 = coincide (p .1) (q .1) i } }, refl)
 
-    pub sub-determined : Allowed (minus (words p level) a b) r out → Allowed (minus (words p level) a b) r′ out′ → (r ≡ r′) × (out ≡ out′)
-    sub-determined = same _
+pub combine-determined : Determined combine.ended combine.Reads.Learnt
+combine-determined κs a x y v w = said-written 6
 
-    -- a stands for both operands
-    pub neg-determined : Allowed (negative (words p level) a) r out → Allowed (negative (words p level) a) r′ out′ → (r ≡ r′) × (out ≡ out′)
-    neg-determined = same _
+pub add-determined : Determined add.ended add.Reads.Learnt
+add-determined κs a x y v w = said-written 4
 
-    pub add-mul-determined : (c : ℕ) → Allowed (plus (words p level) a (scale (words p level) c b)) r out
-        → Allowed (plus (words p level) a (scale (words p level) c b)) r′ out′ → (r ≡ r′) × (out ≡ out′)
-    add-mul-determined c = same _
+pub sub-determined : Determined sub.ended sub.Reads.Learnt
+sub-determined κs a x y v w = said-written 4
 
-    pub sub-mul-determined : (c : ℕ) → Allowed (minus (words p level) a (scale (words p level) c b)) r out
-        → Allowed (minus (words p level) a (scale (words p level) c b)) r′ out′ → (r ≡ r′) × (out ≡ out′)
-    sub-mul-determined c = same _
+pub neg-determined : Determined neg.ended neg.Reads.Learnt
+neg-determined κs a x y v w = said-written 3
 
--- ---- encryption
+pub add-mul-determined : Determined add-mul.ended add-mul.Reads.Learnt
+add-mul-determined κs a x y v w = said-written 5
 
-pub encrypt-determined : (p : Params) (level : Level) (plain : Plain) (masks : List ℕ) (noise : ℕ) (key o : List ℕ) {r r′ : Answer} {out out′ : List ℕ}
-    → r ≡ answer (encryptNumber p level plain (length masks) key (length o)) → r′ ≡ answer (encryptNumber p level plain (length masks) key (length o))
-    → out ≡ encryptOut p level plain masks noise key o → out′ ≡ encryptOut p level plain masks noise key o → (r ≡ r′) × (out ≡ out′)
-encrypt-determined p level plain masks noise key o e e′ w w′ = (coincide e e′, coincide w w′)
+pub sub-mul-determined : Determined sub-mul.ended sub-mul.Reads.Learnt
+sub-mul-determined κs a x y v w = said-written 5
 
--- ---- phases and decryption
-
-module _ (p : Params) (level : Level) (c key : List ℕ) {r r′ : Answer} where
-  pub phase-of-determined : {t t′ : ℕ} → r ≡ answer (keyedNumber p level (length c) key 0) → r′ ≡ answer (keyedNumber p level (length c) key 0)
-      → t ≡ phaseValue p level c key → t′ ≡ phaseValue p level c key → (r ≡ r′) × (t ≡ t′)
-  phase-of-determined e e′ v v′ = (coincide e e′, coincide v v′)
-
-  pub decrypt-bit-determined : {b b′ : Bool} → r ≡ answer (keyedNumber p level (length c) key 0) → r′ ≡ answer (keyedNumber p level (length c) key 0)
-      → b ≡ bitValue p level c key → b′ ≡ bitValue p level c key → (r ≡ r′) × (b ≡ b′)
-  decrypt-bit-determined e e′ v v′ = (coincide e e′, coincide v v′)
-
-  pub decrypt-message-determined : (m : ℕ) {v v′ : ℕ} → r ≡ answer (keyedNumber p level (length c) key (modulusNumber m)) → r′ ≡ answer (keyedNumber p level (length c) key (modulusNumber m))
-      → v ≡ messageValue p level m c key → v′ ≡ messageValue p level m c key → (r ≡ r′) × (v ≡ v′)
-  decrypt-message-determined m e e′ v v′ = (coincide e e′, coincide v v′)
-
--- ---- numbers
-
-pub dimension-of-determined : (p : Params) (level : Level) {r r′ : ℕ} → r ≡ dimensionOf p level → r′ ≡ dimensionOf p level → r ≡ r′
-dimension-of-determined p level = coincide
-
-pub key-number-determined : (key : List ℕ) {r r′ : ℕ} → r ≡ keyNumber key → r′ ≡ keyNumber key → r ≡ r′
-key-number-determined key = coincide
-
-pub modulus-number-determined : (m : ℕ) {r r′ : ℕ} → r ≡ modulusNumber m → r′ ≡ modulusNumber m → r ≡ r′
-modulus-number-determined m = coincide
+pub modulus-number-determined : Determined modulus-number.ended modulus-number.Reads.Learnt
+modulus-number-determined κs a x y v w = said

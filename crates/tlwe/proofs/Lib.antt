@@ -4,4 +4,5 @@ pub mod Sums
 pub mod Messages
 pub mod Phases
 pub mod Inverse
+pub mod Examples
 pub mod Determined

@@ -43,7 +43,7 @@ pub struct DecryptedMessage {
 }
 
 // The masks of a ciphertext, also the words of its key; 0 where the parameters are refused.
-pub fn dimension_of(p: Params, level: Level) -> usize
+pub(crate) fn dimension_of(p: Params, level: Level) -> usize
     ensures { λ r. ⌜ r ≡ dimensionOf p level ⌝ }
 {
     let s = params::sizes_of(p);

@@ -1,4 +1,4 @@
--- The proved example of document 01 that concerns extraction, and its refusals, by computing the definitions.
+-- Extraction at its last index, and its refusals, by computing the definitions. Document 01's own case is in egl_c.
 -- Assumes nothing.
 use mathlib.Core.Path.{_≡_, refl}
 use mathlib.Core.List.{[], _∷_}
@@ -13,11 +13,6 @@ use Rattle.trlwe.specs.Extract.{extractNumber, extractOut}
 -- N 4
 abbrev four : Params
 four = numbers 1 2 6 3 2 8
-
--- P: extraction at 0 from a = 1, 2, 3, 4 with b[0] 5
-pub extract-at-zero : extractOut four (1 ∷ 2 ∷ 3 ∷ 4 ∷ []) (5 ∷ 6 ∷ 7 ∷ 8 ∷ []) 0 (0 ∷ 0 ∷ 0 ∷ 0 ∷ 0 ∷ []) ≡ 1 ∷ 0xFFFFFFFB ∷ 0xFFFFFFFC ∷ 0xFFFFFFFD ∷ 5 ∷ []
-unfolding extractNumber paramsNumber switchingNumber extract tab comp Q
-extract-at-zero = refl
 
 -- at N - 1 nothing is complemented; at N the call is refused, and after a slice of another length, in table order
 pub extract-ends : (extractOut four (1 ∷ 2 ∷ 3 ∷ 4 ∷ []) (5 ∷ 6 ∷ 7 ∷ 8 ∷ []) 3 (0 ∷ 0 ∷ 0 ∷ 0 ∷ 0 ∷ []) ≡ 4 ∷ 3 ∷ 2 ∷ 1 ∷ 8 ∷ [])

@@ -1,31 +1,22 @@
--- Each public contract determines the outcome (01, 'What the contracts owe'): two outcomes that it allows coincide. Where it is an equation that is `coincide`;
--- the double that `torus_to_f64` gives is determined by its value.
+-- Two outcomes that a contract of this crate allows coincide: of the contract itself, as `rattle` reads it from the code, for every public routine (01, 'What the contracts owe').
 -- Assumes nothing.
-use mathlib.Core.Path.{_≡_, ap}
+use mathlib.Core.Path.{refl}
 use mathlib.Core.Bool.{false}
-use mathlib.Core.List.{List}
-use Prim.Native.Nat.{ℕ}
-use lib.Dec.{T}
-use lib.ListN.{length}
-use lib.Ieee.{Float, binary64, fits}
-use lib.Ieee.Exact.{HasValue}
+use lib.Ieee.{binary64}
 use Rattle.ring.specs.Word.{Q, Q-pos}
-use Rattle.params.specs.Refusal.{answer, ifDone}
-use Rattle.params.specs.declared.Answer.{Answer}
-use Rattle.params.proofs.Answers.{coincide}
-use Rattle.utils.specs.declared.Torus.{Torus}
-use Rattle.utils.specs.Torus.{word, words, vecNumber}
+use Rattle.ring.proofs.Outcomes.{coincide, Determined, DeterminedAs, said-written}
 use Rattle.utils.proofs.Unique.{value-unique}
+use Rattle.utils.proofs.f64_to_torus as to-torus
+use Rattle.utils.proofs.torus_to_f64 as to-f64
+use Rattle.utils.proofs.f64_to_torus_vec as vec
 
-pub f64-to-torus-determined : (d : Float) (x y : Torus) → x .0 ≡ word d → y .0 ≡ word d → x ≡ y
-f64-to-torus-determined d x y e f = ap (λ (n : ℕ). record { 0 = n }) (coincide e f)
+-- the contract speaks of the one field of the result
+pub f64-to-torus-determined : Determined to-torus.ended to-torus.Reads.Learnt
+f64-to-torus-determined κs a x y v w p q = (λ i. record { 0 = coincide p q i }, refl)
 
--- both x and y are doubles, so the format holds them
-pub torus-to-f64-determined : (t : ℕ) (x y : Float) → T (fits binary64 x) → T (fits binary64 y) → HasValue x false t Q → HasValue y false t Q → x ≡ y
-torus-to-f64-determined t x y p q v w = value-unique binary64 x y false t Q Q-pos p q v w
+-- both results are doubles, so the format holds them
+pub torus-to-f64-determined : DeterminedAs to-f64.ended to-f64.Reads.Learnt (λ κs. to-f64.Kinds.r .is .Ok κs) (λ κs x. x)
+torus-to-f64-determined κs a x y v w ox oy p q = (value-unique binary64 x y false (a .0 .0) Q Q-pos (rw ox tt) (rw oy tt) p q, refl)
 
-pub f64-to-torus-vec-said : (d : List Float) (out : List ℕ) {x y : Answer} → x ≡ answer (vecNumber (length d) (length out)) → y ≡ answer (vecNumber (length d) (length out)) → x ≡ y
-f64-to-torus-vec-said d out = coincide
-
-pub f64-to-torus-vec-written : (d : List Float) (out : List ℕ) {x y : List ℕ} → x ≡ ifDone (vecNumber (length d) (length out)) (words d) out → y ≡ ifDone (vecNumber (length d) (length out)) (words d) out → x ≡ y
-f64-to-torus-vec-written d out = coincide
+pub f64-to-torus-vec-determined : Determined vec.ended vec.Reads.Learnt
+f64-to-torus-vec-determined κs a x y v w = said-written 1

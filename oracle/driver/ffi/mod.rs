@@ -4,13 +4,30 @@
 //! same name that takes the arguments of a case. The builder reads these lines as well.
 
 use crate::case::Arg;
+use std::cell::RefCell;
+use std::collections::BTreeSet;
+
+thread_local!(static DONE: RefCell<BTreeSet<&'static str>> = const { RefCell::new(BTreeSet::new()) });
+
+/// Notes the function whose call gave this answer, where it did its work: one that none ever did is an error at the end.
+pub fn noted(name: &'static str, answer: u64) -> u64 {
+    if answer as u32 == 0 {
+        DONE.with(|done| done.borrow_mut().insert(name));
+    }
+    answer
+}
+
+/// The functions noted in this thread.
+pub fn done() -> BTreeSet<&'static str> {
+    DONE.with(|done| done.borrow().clone())
+}
 
 // Where the library runs in another process (`bridge`), a function sends its arguments there.
 #[cfg(bridge)]
 macro_rules! c_functions {
     ($(fn $f:ident($($kind:ident),*);)*) => {
         $(pub fn $f(p: &[u32; 6], args: &mut [crate::case::Arg]) -> u64 {
-            crate::bridge::call(stringify!($f), &[$(stringify!($kind)),*], p, args)
+            crate::ffi::noted(stringify!($f), crate::bridge::call(stringify!($f), &[$(stringify!($kind)),*], p, args))
         })*
     };
 }
@@ -19,7 +36,7 @@ macro_rules! c_functions {
 macro_rules! plain_functions {
     ($(fn $f:ident($($kind:ident),*);)*) => {
         $(pub fn $f(args: &mut [crate::case::Arg]) -> u64 {
-            crate::bridge::call(stringify!($f), &[$(stringify!($kind)),*], &[0; 6], args)
+            crate::ffi::noted(stringify!($f), crate::bridge::call(stringify!($f), &[$(stringify!($kind)),*], &[0; 6], args))
         })*
     };
 }
@@ -50,8 +67,11 @@ macro_rules! c_function {
             #[allow(unused_mut, unused_variables)]
             let mut $next = args.iter_mut();
             $($let)*
-            unsafe { $f($($arg),*) }
+            crate::ffi::noted(stringify!($f), unsafe { $f($($arg),*) })
         }
+    };
+    (@ $f:ident $next:ident ($($first:ident: $of:ty)?) [$($ty:ty,)*] [$($let:tt)*] [$($arg:expr,)*] u8 $($kind:ident)*) => {
+        crate::ffi::c_function!(@ $f $next ($($first: $of)?) [$($ty,)* u8,] [$($let)* let x = $next.next().unwrap().num() as u8;] [$($arg,)* x,] $($kind)*);
     };
     (@ $f:ident $next:ident ($($first:ident: $of:ty)?) [$($ty:ty,)*] [$($let:tt)*] [$($arg:expr,)*] u32 $($kind:ident)*) => {
         crate::ffi::c_function!(@ $f $next ($($first: $of)?) [$($ty,)* u32,] [$($let)* let x = $next.next().unwrap().num() as u32;] [$($arg,)* x,] $($kind)*);
@@ -108,10 +128,12 @@ pub fn slice(arg: &mut Arg) -> (*mut u8, usize) {
 
 #[cfg(group_circuit)]
 pub mod circuit;
-#[cfg(group_encrypted)]
+#[cfg(group_drift)]
+pub mod drift;
+// drift runs are compared with encrypted runs, and those with single gates
+#[cfg(any(group_encrypted, group_drift))]
 pub mod encrypted;
-// encrypted runs are compared with single gates
-#[cfg(any(group_gates, group_encrypted))]
+#[cfg(any(group_gates, group_encrypted, group_drift))]
 pub mod gates;
 #[cfg(group_key)]
 pub mod key;

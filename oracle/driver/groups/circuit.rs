@@ -1,4 +1,4 @@
-//! Circuits against an independent reader and evaluator: answer and place, work, plain run;
+//! Circuits against an independent reader and evaluator: answer and place, counts, work, plain run;
 //! valid ones, damaged ones, every byte of small ones set to every value.
 
 use crate::case::{Arg, Set, Tally};
@@ -6,7 +6,7 @@ use crate::circuits::{damage, read, run_plain, valid, KINDS};
 use crate::ffi::circuit::*;
 use crate::source::Source;
 
-/// One circuit: check, work, plain run with lengths that fit and with some that do not.
+/// One circuit: check, counts, work, plain run with lengths that fit and with some that do not.
 fn compare(tally: &mut Tally, source: &mut Source, bytes: &[u8]) {
     let circuit = read(bytes);
     let want = circuit.as_ref().err().map_or(0, |(number, place)| number | (*place as u64) << 32);
@@ -17,9 +17,21 @@ fn compare(tally: &mut Tally, source: &mut Source, bytes: &[u8]) {
     let got = egl_circuit_check(&mut [lent.clone()]);
     tally.same(got == want, || format!("check {}: {got:#x}, wanted {want:#x}", shown()));
 
+    let work = circuit.as_ref().map_or(0, |c| c.gates.iter().filter(|g| g.0 >= 3).count());
+    let length = if source.below(4) == 0 { source.of(&[0, 4, 6, 10]) } else { 5 };
+    let before: Vec<u32> = (0..length).map(|_| source.next() as u32).collect();
+    let mut args = [lent.clone(), Arg::Words(before.clone())];
+    let got = egl_circuit_counts(&mut args);
+    let number = if want == 0 && length != 5 { 2 } else { want };
+    let told = match &circuit {
+        Ok(c) if number == 0 => [1, c.inputs, c.gates.len(), c.outputs.len(), work].map(|x| x as u32).to_vec(),
+        _ => before,
+    };
+    tally.same(got == number && args[1].w() == told, || format!("counts {}: {got:#x}, wanted {number:#x}", shown()));
+
     // the work stands where a refusal has its place
     let got = egl_circuit_work(&mut [lent.clone()]);
-    let work = circuit.as_ref().map_or(want, |c| (c.gates.iter().filter(|g| g.0 >= 3).count() as u64) << 32);
+    let work = if want == 0 { (work as u64) << 32 } else { want };
     tally.same(got == work, || format!("work {}: {got:#x}, wanted {work:#x}", shown()));
 
     let (mut ins, mut outs) = circuit.as_ref().map_or((2, 1), |c| (c.inputs, c.outputs.len()));

@@ -4,6 +4,7 @@
 use super::gates::{self, BOOTSTRAPPING, SWITCHING};
 use crate::case::{self, Arg, Routine, Set, Slot, Tally};
 use crate::circuits::{plain_wires, read, run_plain, valid, Circuit, KINDS};
+use crate::draw;
 use crate::exact;
 use crate::exact_run::{self, cipher, outputs};
 use crate::ffi::encrypted::*;
@@ -73,7 +74,7 @@ pub fn run(set: &Set, tally: &mut Tally) {
     for i in 0..junk {
         let keys = junk_keys(&mut source, set.p);
         // every fourth has no gate that looks at a key
-        let bytes = case::small_circuit(&mut source, if i % 4 == 3 { 3 } else { KINDS });
+        let bytes = draw::small_circuit(&mut source, if i % 4 == 3 { 3 } else { KINDS });
         with_junk(tally, &mut source, &keys, &bytes);
     }
     if (n, nbit) == (1, 1) {
@@ -104,7 +105,7 @@ fn with_junk(tally: &mut Tally, source: &mut Source, keys: &Keys, bytes: &[u8]) 
 /// Each wire and each output decrypts to its plain bit.
 fn with_honest(tally: &mut Tally, source: &mut Source, keys: &Keys, count: usize) {
     for _ in 0..count {
-        let bytes = case::small_circuit(source, KINDS);
+        let bytes = draw::small_circuit(source, KINDS);
         let circuit = circuit_of(&Arg::Bytes(bytes.clone()));
         let bits: Vec<u8> = (0..circuit.inputs).map(|_| source.below(2) as u8).collect();
         let ins: Vec<u32> = bits.iter().flat_map(|b| keys.encrypt(source, *b == 1)).collect();

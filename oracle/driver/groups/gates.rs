@@ -4,6 +4,8 @@
 use super::fine;
 use crate::case::{self, Arg, Kind, Routine, Set, Slot, Tally};
 use crate::exact;
+use crate::exact_run;
+use crate::exact_words::agreed;
 use crate::ffi::gates::*;
 use crate::honest::Keys;
 use crate::source::Source;
@@ -57,7 +59,7 @@ pub static ROUTINES: [Routine; 15] = [
         cost: |s| 100 + 4 * s.n,
         call: egl_gates_not,
         reference: |set, a| {
-            a[1] = Arg::Words(set.original.map_or_else(|| exact::not(a[0].w()), |o| o.not(a[0].w())));
+            a[1] = Arg::Words(agreed(set.original.map(|o| o.not(a[0].w())), exact::not(a[0].w())));
             true
         },
     },
@@ -67,7 +69,7 @@ pub static ROUTINES: [Routine; 15] = [
         cost: |s| 100 + 4 * s.n,
         call: egl_gates_copy,
         reference: |set, a| {
-            a[1] = Arg::Words(set.original.map_or_else(|| a[0].w().to_vec(), |o| o.copy(a[0].w())));
+            a[1] = Arg::Words(agreed(set.original.map(|o| o.copy(a[0].w())), a[0].w().to_vec()));
             true
         },
     },
@@ -77,8 +79,8 @@ pub static ROUTINES: [Routine; 15] = [
         cost: |s| 1000 + 4 * s.n,
         call: egl_gates_constant,
         reference: |set, a| {
-            let Some(o) = set.original else { return false };
-            a[1] = Arg::Words(o.constant(a[0].num() != 0));
+            let bit = a[0].num() != 0;
+            a[1] = Arg::Words(agreed(set.original.map(|o| o.constant(bit)), exact_run::constant(&set.p, bit)));
             true
         },
     },

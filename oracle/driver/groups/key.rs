@@ -1,8 +1,9 @@
-//! Key material: the offset, the test vector, the switching key with lent masks and noise,
-//! and its rows, word for word against the original.
+//! Key material: the offset, the test vector, the switching key with lent masks and noise, and its rows, word for word against document 01's words and,
+//! where it is at hand, the original.
 
 use crate::case::{self, Arg, Kind, Routine, Set, Slot, Tally};
 use crate::exact;
+use crate::exact_words::{self, agreed};
 use crate::ffi::key::*;
 use crate::table::Sizes;
 
@@ -10,15 +11,15 @@ const KEY0: Slot = Slot::Key(|s| s.n);
 const KEY1: Slot = Slot::Key(|s| s.ring);
 const OUT: Slot = Slot::Out(Kind::Words, |s| s.ring);
 
-pub static ROUTINES: [Routine; 4] = [
+pub static ROUTINES: [Routine; 5] = [
     Routine {
         name: "key_decomposition_offset",
         slots: &[Slot::Value],
         cost: |_| 100_000,
         call: egl_key_decomposition_offset,
         reference: |set, a| {
-            let want = set.original.map_or_else(|| exact::offset(&set.p), |o| o.decomposition_offset());
-            a[0] = Arg::Num(want as u64);
+            let theirs = set.original.map(|o| o.decomposition_offset());
+            a[0] = Arg::Num(agreed(theirs, exact::offset(&set.p)) as u64);
             true
         },
     },
@@ -28,8 +29,7 @@ pub static ROUTINES: [Routine; 4] = [
         cost: |_| 100_000,
         call: egl_key_gen_testvec,
         reference: |set, a| {
-            let Some(o) = set.original else { return false };
-            let (x, y) = o.gen_testvec();
+            let (x, y) = agreed(set.original.map(|o| o.gen_testvec()), exact_words::testvec(&set.p));
             (a[0], a[1]) = (Arg::Words(x), Arg::Words(y));
             true
         },
@@ -46,8 +46,18 @@ pub static ROUTINES: [Routine; 4] = [
         cost: |s| 100 + 10 * s.switching(),
         call: egl_key_gen_key_switching_key,
         reference: |set, a| {
-            let Some(o) = set.original else { return false };
-            a[4] = Arg::Words(o.gen_key_switching_key(a[0].w(), a[1].w(), a[2].w(), a[3].w()));
+            let theirs = set.original.map(|o| o.gen_key_switching_key(a[0].w(), a[1].w(), a[2].w(), a[3].w()));
+            a[4] = Arg::Words(agreed(theirs, exact_words::switching_key(&set.p, a[0].w(), a[1].w(), a[2].w(), a[3].w())));
+            true
+        },
+    },
+    Routine {
+        name: "key_row_index",
+        slots: &[Slot::Index(64, |s| s.ring - 1), Slot::Index(64, |s| s.t - 1), Slot::Index(64, |s| s.base - 1), Slot::Value],
+        cost: |_| 100,
+        call: egl_key_row_index,
+        reference: |set, a| {
+            a[3] = row_place(set, [0, 1, 2].map(|x| a[x].num() as usize));
             true
         },
     },
@@ -63,13 +73,17 @@ pub static ROUTINES: [Routine; 4] = [
         cost: |s| 100 + 4 * s.switching(),
         call: switching_row,
         reference: |set, a| {
-            let s = Sizes::of(&set.p);
-            let [i, j, k] = [1, 2, 3].map(|x| a[x].num() as usize);
-            a[4] = Arg::Num((s.base * s.t * i + s.base * j + k) as u64);
+            a[4] = row_place(set, [1, 2, 3].map(|x| a[x].num() as usize));
             true
         },
     },
 ];
+
+/// The place of a row among the rows, by document 01's formula.
+fn row_place(set: &Set, [i, j, k]: [usize; 3]) -> Arg {
+    let s = Sizes::of(&set.p);
+    Arg::Num((s.base * s.t * i + s.base * j + k) as u64)
+}
 
 /// The lookup of a row: the answer, and beside it the row's place, as two calls give them.
 fn switching_row(p: &[u32; 6], args: &mut [Arg]) -> u64 {
@@ -80,7 +94,7 @@ fn switching_row(p: &[u32; 6], args: &mut [Arg]) -> u64 {
     if answer != 0 {
         return answer;
     }
-    (egl_key_row_index(p, &mut indices.map(Arg::Num)) & 0xFFFF_FFFF) << 32
+    egl_key_row_index(p, &mut indices.map(Arg::Num))
 }
 
 pub fn run(set: &Set, tally: &mut Tally) {

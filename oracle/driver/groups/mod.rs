@@ -2,10 +2,14 @@
 
 #[cfg(group_circuit)]
 pub mod circuit;
+#[cfg(group_drift)]
+pub mod drift;
+#[cfg(group_drift)]
+mod drift_circuits;
 #[cfg(group_encrypted)]
 pub mod encrypted;
-// encrypted runs are compared with single gates
-#[cfg(any(group_gates, group_encrypted))]
+// encrypted runs are compared with single gates, and drift runs share their slots
+#[cfg(any(group_gates, group_encrypted, group_drift))]
 pub mod gates;
 #[cfg(group_key)]
 pub mod key;
@@ -65,6 +69,8 @@ pub fn groups() -> Vec<Group> {
         Group { name: "circuit", run: Run::Once(circuit::run), routines: &[] },
         #[cfg(group_encrypted)]
         Group { name: "encrypted", run: Run::EachSet(encrypted::run), routines: &[] },
+        #[cfg(group_drift)]
+        Group { name: "drift", run: Run::EachSet(drift::run), routines: &[] },
     ]
 }
 

@@ -4,6 +4,7 @@
 
 use crate::case::{self, Arg, Kind, Routine, Set, Slot, Tally};
 use crate::exact;
+use crate::exact_words::agreed;
 use crate::ffi::rotation::*;
 use crate::source::Source;
 
@@ -19,7 +20,7 @@ pub static ROUTINES: [Routine; 3] = [
         reference: |set, a| {
             let k = a[1].num() as usize;
             let theirs = set.original.map(|o| o.poly_mul_with_x_k(a[0].w(), k));
-            a[2] = Arg::Words(theirs.unwrap_or_else(|| exact::rotated(a[0].w(), k)));
+            a[2] = Arg::Words(agreed(theirs, exact::rotated(a[0].w(), k)));
             true
         },
     },

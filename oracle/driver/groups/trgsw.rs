@@ -1,9 +1,10 @@
-//! TRGSW: key generation, decomposition, switching word for word against the original; the external product, cmux and blind rotation against the exact steps, and
-//! where the original's transform is exact (`fine`) word for word against it too.
+//! TRGSW, word for word: key generation, decomposition, switching against document 01's words and the original; the external product, cmux and blind rotation
+//! against the exact steps, and where the original's transform is exact (`fine`) against it too.
 
 use super::fine;
 use crate::case::{self, Arg, Kind, Routine, Set, Slot, Tally};
 use crate::exact;
+use crate::exact_words::{self, agreed};
 use crate::ffi::trgsw::*;
 use crate::source::Source;
 use crate::table::Sizes;
@@ -39,8 +40,9 @@ pub static ROUTINES: [Routine; 8] = [
         cost: |s| 2 * product_cost(s),
         call: egl_trgsw_encrypt_torus,
         reference: |set, a| {
-            let Some(o) = set.original else { return false };
-            a[4] = Arg::Words(o.encrypt_torus(a[0].num() as u32, a[1].w(), a[2].w(), a[3].w()));
+            let m = a[0].num() as u32;
+            let theirs = set.original.map(|o| o.encrypt_torus(m, a[1].w(), a[2].w(), a[3].w()));
+            a[4] = Arg::Words(agreed(theirs, exact_words::torus_rows(&set.p, m, a[1].w(), a[2].w(), a[3].w())));
             true
         },
     },
@@ -56,8 +58,8 @@ pub static ROUTINES: [Routine; 8] = [
         cost: |s| 4 * s.n * product_cost(s),
         call: egl_trgsw_gen_bootstrapping_key,
         reference: |set, a| {
-            let Some(o) = set.original else { return false };
-            a[4] = Arg::Words(o.gen_bootstrapping_key(a[0].w(), a[1].w(), a[2].w(), a[3].w()));
+            let theirs = set.original.map(|o| o.gen_bootstrapping_key(a[0].w(), a[1].w(), a[2].w(), a[3].w()));
+            a[4] = Arg::Words(agreed(theirs, exact_words::bootstrapping_key(&set.p, a[0].w(), a[1].w(), a[2].w(), a[3].w())));
             true
         },
     },
@@ -68,7 +70,7 @@ pub static ROUTINES: [Routine; 8] = [
         call: egl_trgsw_decomposition,
         reference: |set, a| {
             let theirs = set.original.map(|o| o.decomposition(a[0].w(), a[1].w()));
-            a[2] = Arg::Words(theirs.unwrap_or_else(|| exact::decomposition(&set.p, a[0].w(), a[1].w())));
+            a[2] = Arg::Words(agreed(theirs, exact::decomposition(&set.p, a[0].w(), a[1].w())));
             true
         },
     },
@@ -112,7 +114,7 @@ pub static ROUTINES: [Routine; 8] = [
             pair(a, 2, want)
         },
     },
-    // The lent key holds junk in its idle rows as well: no routine looks at them.
+    // The lent key holds junk in its idle rows as well: no word depends on them.
     Routine {
         name: "trgsw_identity_key_switching",
         slots: &[
@@ -124,7 +126,7 @@ pub static ROUTINES: [Routine; 8] = [
         call: egl_trgsw_identity_key_switching,
         reference: |set, a| {
             let theirs = set.original.map(|o| o.cloud(a[1].w(), &[]).identity_key_switching(a[0].w()));
-            a[2] = Arg::Words(theirs.unwrap_or_else(|| exact::switch(&set.p, a[0].w(), a[1].w())));
+            a[2] = Arg::Words(agreed(theirs, exact::switch(&set.p, a[0].w(), a[1].w())));
             true
         },
     },

@@ -1,7 +1,9 @@
-//! TRLWE: encryption of doubles and of bits, decryption, extraction, word for word against
-//! the original, whose product is exact here.
+//! TRLWE: encryption of doubles and of bits, decryption, extraction, word for word against document 01's words and, where it is at hand, the original,
+//! whose product is exact here.
 
 use crate::case::{self, Arg, Kind, Routine, Set, Slot, Tally};
+use crate::exact;
+use crate::exact_words::{self, agreed};
 use crate::ffi::trlwe::*;
 
 const RING: Slot = Slot::In(Kind::Words, |s| s.ring);
@@ -15,8 +17,10 @@ pub static ROUTINES: [Routine; 4] = [
         cost: |s| 40 + s.ring * s.ring,
         call: egl_trlwe_encrypt_f64,
         reference: |set, a| {
-            let (Some(o), Arg::Doubles(d)) = (set.original, &a[0]) else { return false };
-            let (x, y) = o.trlwe_encrypt_f64(d, a[1].w(), a[2].w(), a[3].w());
+            let Arg::Doubles(d) = &a[0] else { return false };
+            let plain: Vec<u32> = d.iter().map(|x| exact::torus(x.to_bits())).collect();
+            let theirs = set.original.map(|o| o.trlwe_encrypt_f64(d, a[1].w(), a[2].w(), a[3].w()));
+            let (x, y) = agreed(theirs, exact_words::pair(&plain, a[1].w(), a[2].w(), a[3].w()));
             (a[4], a[5]) = (Arg::Words(x), Arg::Words(y));
             true
         },
@@ -27,9 +31,10 @@ pub static ROUTINES: [Routine; 4] = [
         cost: |s| 40 + s.ring * s.ring,
         call: egl_trlwe_encrypt_bool,
         reference: |set, a| {
-            let (Some(o), Arg::Bytes(v)) = (set.original, &a[0]) else { return false };
-            let bits: Vec<bool> = v.iter().map(|&x| x != 0).collect();
-            let (x, y) = o.trlwe_encrypt_bool(&bits, a[1].w(), a[2].w(), a[3].w());
+            let bits: Vec<bool> = a[0].b().iter().map(|&x| x != 0).collect();
+            let plain: Vec<u32> = bits.iter().map(|&bit| exact_words::bit_word(bit)).collect();
+            let theirs = set.original.map(|o| o.trlwe_encrypt_bool(&bits, a[1].w(), a[2].w(), a[3].w()));
+            let (x, y) = agreed(theirs, exact_words::pair(&plain, a[1].w(), a[2].w(), a[3].w()));
             (a[4], a[5]) = (Arg::Words(x), Arg::Words(y));
             true
         },
@@ -40,8 +45,8 @@ pub static ROUTINES: [Routine; 4] = [
         cost: |s| 40 + s.ring * s.ring,
         call: egl_trlwe_decrypt_bool,
         reference: |set, a| {
-            let Some(o) = set.original else { return false };
-            let bits = o.trlwe_decrypt_bool(a[0].w(), a[1].w(), a[2].w());
+            let theirs = set.original.map(|o| o.trlwe_decrypt_bool(a[0].w(), a[1].w(), a[2].w()));
+            let bits = agreed(theirs, exact_words::pair_bits(a[0].w(), a[1].w(), a[2].w()));
             a[3] = Arg::Bytes(bits.into_iter().map(u8::from).collect());
             true
         },
@@ -52,8 +57,9 @@ pub static ROUTINES: [Routine; 4] = [
         cost: |s| 40 + 4 * s.ring,
         call: egl_trlwe_sample_extract_index,
         reference: |set, a| {
-            let Some(o) = set.original else { return false };
-            a[3] = Arg::Words(o.sample_extract_index(a[0].w(), a[1].w(), a[2].num() as usize));
+            let k = a[2].num() as usize;
+            let theirs = set.original.map(|o| o.sample_extract_index(a[0].w(), a[1].w(), k));
+            a[3] = Arg::Words(agreed(theirs, exact::extract(a[0].w(), a[1].w(), k)));
             true
         },
     },

@@ -1,5 +1,5 @@
 //! Doubles to words and back: 3 million doubles against the original and against the word
-//! worked out from the double's bits; words there and back; the slice form.
+//! worked out from the double's bits; words there and back; the slice form. Also the version, which needs no group of its own.
 
 use crate::case::{Arg, Set, Tally};
 use crate::exact;
@@ -49,7 +49,17 @@ fn slice(tally: &mut Tally, original: Reference, source: &mut Source, len: usize
     tally.same(answer == number && args[1].w() == want, || format!("f64_to_torus_vec {len} {out_len}: answer {answer}"));
 }
 
+/// The archive's version is the header's.
+fn version(tally: &mut Tally) {
+    let header = include_str!("../../../include/egl.h");
+    let stated = header.split("#define EGL_VERSION ").nth(1).and_then(|rest| rest.lines().next()).and_then(|word| word.parse().ok());
+    let got = egl_version(&mut []) as u32;
+    crate::ffi::noted("egl_version", 0);
+    tally.same(stated == Some(got), || format!("version {got}, in the header {stated:?}"));
+}
+
 pub fn run(sets: &[Set], tally: &mut Tally) {
+    version(tally);
     let original = sets.iter().find_map(|s| s.original);
     let mut source = Source::new(crate::SEED, "utils");
     let mut list = Vec::new();

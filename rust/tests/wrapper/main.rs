@@ -2,7 +2,7 @@
 
 mod builder;
 mod circuits;
-mod declarations;
+mod drift;
 mod encrypted_runs;
 mod gates;
 mod keys;

@@ -6,6 +6,9 @@ use egl::Params;
 /// The definitions that the proofs cite.
 const PROVED: &str = include_str!("../../../crates/params/specs/Published.antt");
 
+/// The header, which names the same sets for C.
+const HEADER: &str = include_str!("../../../include/egl.h");
+
 fn numbers(params: Params) -> [u32; 6] {
     [params.n, params.nbit, params.bgbit, params.l, params.basebit, params.t]
 }
@@ -69,6 +72,25 @@ fn sets_are_those_of_the_original() {
             set.name
         );
     }
+}
+
+/// What the header defines a name as.
+fn defined(name: &str) -> Option<&'static str> {
+    HEADER.lines().find_map(|line| line.strip_prefix("#define ")?.strip_prefix(name)?.strip_prefix(' '))
+}
+
+#[test]
+fn sets_are_those_of_the_header() {
+    for set in &PUBLISHED {
+        let name = format!("EGL_SET_{}", set.name.to_uppercase());
+        let six: Vec<u32> = defined(&name).unwrap_or_default().split(", ").filter_map(|word| word.parse().ok()).collect();
+        assert_eq!(six, numbers(set.params), "{name}");
+        for (level, noise) in [("LV0", set.noise.level0()), ("LV1", set.noise.level1())] {
+            assert_eq!(defined(&format!("{name}_NOISE_{level}")).and_then(|word| word.parse().ok()), Some(noise), "{name} {level}");
+        }
+    }
+    // Each set has three lines.
+    assert_eq!(HEADER.matches("#define EGL_SET_").count(), 3 * PUBLISHED.len());
 }
 
 #[test]

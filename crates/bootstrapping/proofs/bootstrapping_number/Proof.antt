@@ -5,7 +5,7 @@ use Prim.Native.Nat.{_*_}
 use borrow.Author.Tests.{eq-eqb, ne-eqb}
 use lib.ListN.{length}
 use Rattle.params.specs.Ranges.{paramsNumber}
-use Rattle.params.specs.Sizes.{size, bitWords}
+use Rattle.params.specs.Sizes.{size, bootstrappingWords}
 use Rattle.bootstrapping.specs.Rows.{bitDraws}
 use Rattle.tlwe.proofs.Checks.{key-good}
 use Rattle.bootstrapping.specs.Refusals.{bootstrappingNumber}
@@ -67,7 +67,7 @@ returns-6 c =
     let e = c .before .before .before .before .before .before .before .before .before .before .before .before .sizes-of .ensures in
     let z = c .before .before .before .before .before .before .before .before .before .before .if1 .left in
     simp
-    (eq-eqb (paramsNumber (g .p)) 0 (sized (g .p) e z), eq-eqb (length (g .key-lv0 .now)) (g .p .n) (c .before .before .before .before .before .before .before .before .if2 .left ∙ n-of (g .p) e z), eq-eqb (length (g .key-lv1 .now)) (size (g .p)) (c .before .before .before .before .before .before .if3 .left ∙ size-of (g .p) e z), eq-eqb (g .masks) (g .p .n * bitDraws (g .p)) (c .before .before .before .before .if4 .left ∙ all-draws-of (g .p) e z), eq-eqb (g .noise) (g .p .n * bitDraws (g .p)) (c .before .before .if5 .left ∙ all-draws-of (g .p) e z), ne-eqb (g .out) (g .p .n * bitWords (g .p)) (λ q. c .if6 .taken (q ∙ sym (all-of (g .p) e z))))
+    (eq-eqb (paramsNumber (g .p)) 0 (sized (g .p) e z), eq-eqb (length (g .key-lv0 .now)) (g .p .n) (c .before .before .before .before .before .before .before .before .if2 .left ∙ n-of (g .p) e z), eq-eqb (length (g .key-lv1 .now)) (size (g .p)) (c .before .before .before .before .before .before .if3 .left ∙ size-of (g .p) e z), eq-eqb (g .masks) (g .p .n * bitDraws (g .p)) (c .before .before .before .before .if4 .left ∙ all-draws-of (g .p) e z), eq-eqb (g .noise) (g .p .n * bitDraws (g .p)) (c .before .before .if5 .left ∙ all-draws-of (g .p) e z), ne-eqb (g .out) (bootstrappingWords (g .p)) (λ q. c .if6 .taken (q ∙ sym (all-of (g .p) e z))))
 
 key-number-requires : tie.Need-key-number-requires
 key-number-requires c κs = search needs
@@ -79,7 +79,7 @@ returns-7 c =
     let e = c .before .before .before .before .before .before .before .before .before .before .before .before .before .before .sizes-of .ensures in
     let z = c .before .before .before .before .before .before .before .before .before .before .before .before .if1 .left in
     simp
-    (eq-eqb (paramsNumber (g .p)) 0 (sized (g .p) e z), eq-eqb (length (g .key-lv0 .now)) (g .p .n) (c .before .before .before .before .before .before .before .before .before .before .if2 .left ∙ n-of (g .p) e z), eq-eqb (length (g .key-lv1 .now)) (size (g .p)) (c .before .before .before .before .before .before .before .before .if3 .left ∙ size-of (g .p) e z), eq-eqb (g .masks) (g .p .n * bitDraws (g .p)) (c .before .before .before .before .before .before .if4 .left ∙ all-draws-of (g .p) e z), eq-eqb (g .noise) (g .p .n * bitDraws (g .p)) (c .before .before .before .before .if5 .left ∙ all-draws-of (g .p) e z), eq-eqb (g .out) (g .p .n * bitWords (g .p)) (c .before .before .if6 .left ∙ all-of (g .p) e z), key-bad (g .key-lv0 .now) (λ q. c .if7 .taken (c .before .key-number .ensures ∙ q)))
+    (eq-eqb (paramsNumber (g .p)) 0 (sized (g .p) e z), eq-eqb (length (g .key-lv0 .now)) (g .p .n) (c .before .before .before .before .before .before .before .before .before .before .if2 .left ∙ n-of (g .p) e z), eq-eqb (length (g .key-lv1 .now)) (size (g .p)) (c .before .before .before .before .before .before .before .before .if3 .left ∙ size-of (g .p) e z), eq-eqb (g .masks) (g .p .n * bitDraws (g .p)) (c .before .before .before .before .before .before .if4 .left ∙ all-draws-of (g .p) e z), eq-eqb (g .noise) (g .p .n * bitDraws (g .p)) (c .before .before .before .before .if5 .left ∙ all-draws-of (g .p) e z), eq-eqb (g .out) (bootstrappingWords (g .p)) (c .before .before .if6 .left ∙ all-of (g .p) e z), key-bad (g .key-lv0 .now) (λ q. c .if7 .taken (c .before .key-number .ensures ∙ q)))
 
 key-number-requires-2 : tie.Need-key-number-requires-2
 key-number-requires-2 c κs = search needs
@@ -91,7 +91,7 @@ returns-8 c =
     let e = c .before .before .before .before .before .before .before .before .before .before .before .before .before .before .before .before .sizes-of .ensures in
     let z = c .before .before .before .before .before .before .before .before .before .before .before .before .before .before .if1 .left in
     simp
-    (eq-eqb (paramsNumber (g .p)) 0 (sized (g .p) e z), eq-eqb (length (g .key-lv0 .now)) (g .p .n) (c .before .before .before .before .before .before .before .before .before .before .before .before .if2 .left ∙ n-of (g .p) e z), eq-eqb (length (g .key-lv1 .now)) (size (g .p)) (c .before .before .before .before .before .before .before .before .before .before .if3 .left ∙ size-of (g .p) e z), eq-eqb (g .masks) (g .p .n * bitDraws (g .p)) (c .before .before .before .before .before .before .before .before .if4 .left ∙ all-draws-of (g .p) e z), eq-eqb (g .noise) (g .p .n * bitDraws (g .p)) (c .before .before .before .before .before .before .if5 .left ∙ all-draws-of (g .p) e z), eq-eqb (g .out) (g .p .n * bitWords (g .p)) (c .before .before .before .before .if6 .left ∙ all-of (g .p) e z), key-good (g .key-lv0 .now) (sym (c .before .before .before .key-number .ensures) ∙ c .before .before .if7 .left), key-bad (g .key-lv1 .now) (λ q. c .if8 .taken (c .before .key-number2 .ensures ∙ q)))
+    (eq-eqb (paramsNumber (g .p)) 0 (sized (g .p) e z), eq-eqb (length (g .key-lv0 .now)) (g .p .n) (c .before .before .before .before .before .before .before .before .before .before .before .before .if2 .left ∙ n-of (g .p) e z), eq-eqb (length (g .key-lv1 .now)) (size (g .p)) (c .before .before .before .before .before .before .before .before .before .before .if3 .left ∙ size-of (g .p) e z), eq-eqb (g .masks) (g .p .n * bitDraws (g .p)) (c .before .before .before .before .before .before .before .before .if4 .left ∙ all-draws-of (g .p) e z), eq-eqb (g .noise) (g .p .n * bitDraws (g .p)) (c .before .before .before .before .before .before .if5 .left ∙ all-draws-of (g .p) e z), eq-eqb (g .out) (bootstrappingWords (g .p)) (c .before .before .before .before .if6 .left ∙ all-of (g .p) e z), key-good (g .key-lv0 .now) (sym (c .before .before .before .key-number .ensures) ∙ c .before .before .if7 .left), key-bad (g .key-lv1 .now) (λ q. c .if8 .taken (c .before .key-number2 .ensures ∙ q)))
 
 returns-9 : tie.Need-returns-9
 unfolding bootstrappingNumber
@@ -100,7 +100,7 @@ returns-9 c =
     let e = c .before .before .before .before .before .before .before .before .before .before .before .before .before .before .before .before .sizes-of .ensures in
     let z = c .before .before .before .before .before .before .before .before .before .before .before .before .before .before .if1 .left in
     simp
-    (eq-eqb (paramsNumber (g .p)) 0 (sized (g .p) e z), eq-eqb (length (g .key-lv0 .now)) (g .p .n) (c .before .before .before .before .before .before .before .before .before .before .before .before .if2 .left ∙ n-of (g .p) e z), eq-eqb (length (g .key-lv1 .now)) (size (g .p)) (c .before .before .before .before .before .before .before .before .before .before .if3 .left ∙ size-of (g .p) e z), eq-eqb (g .masks) (g .p .n * bitDraws (g .p)) (c .before .before .before .before .before .before .before .before .if4 .left ∙ all-draws-of (g .p) e z), eq-eqb (g .noise) (g .p .n * bitDraws (g .p)) (c .before .before .before .before .before .before .if5 .left ∙ all-draws-of (g .p) e z), eq-eqb (g .out) (g .p .n * bitWords (g .p)) (c .before .before .before .before .if6 .left ∙ all-of (g .p) e z), key-good (g .key-lv0 .now) (sym (c .before .before .before .key-number .ensures) ∙ c .before .before .if7 .left), key-good (g .key-lv1 .now) (sym (c .before .key-number2 .ensures) ∙ c .if8 .left))
+    (eq-eqb (paramsNumber (g .p)) 0 (sized (g .p) e z), eq-eqb (length (g .key-lv0 .now)) (g .p .n) (c .before .before .before .before .before .before .before .before .before .before .before .before .if2 .left ∙ n-of (g .p) e z), eq-eqb (length (g .key-lv1 .now)) (size (g .p)) (c .before .before .before .before .before .before .before .before .before .before .if3 .left ∙ size-of (g .p) e z), eq-eqb (g .masks) (g .p .n * bitDraws (g .p)) (c .before .before .before .before .before .before .before .before .if4 .left ∙ all-draws-of (g .p) e z), eq-eqb (g .noise) (g .p .n * bitDraws (g .p)) (c .before .before .before .before .before .before .if5 .left ∙ all-draws-of (g .p) e z), eq-eqb (g .out) (bootstrappingWords (g .p)) (c .before .before .before .before .if6 .left ∙ all-of (g .p) e z), key-good (g .key-lv0 .now) (sym (c .before .before .before .key-number .ensures) ∙ c .before .before .if7 .left), key-good (g .key-lv1 .now) (sym (c .before .key-number2 .ensures) ∙ c .if8 .left))
 
 pub bootstrapping-number-spec : {M : Type 1} → statement M
 bootstrapping-number-spec =

@@ -19,16 +19,16 @@ decomposition-offset-requires c κs = search needs
 
 decompose-into-requires : tie.Need-decompose-into-requires
 decompose-into-requires c κs =
-    let a = c .before .before .before .before .before .before .before .args in
-    let g = decomposition-good (a .p) (length (a .a .now)) (length (a .b .now)) (length (a .out .now)) (sym (c .before .before .before .decomposition-number .ensures) ∙ c .before .before .if1 .taken) in
-    let o = offset-value (a .p) (g .range) (c .before .decomposition-offset .ensures) in
+    let a = c .before .before .before .before .before .before .before .before .args in
+    let g = decomposition-good (a .p) (length (a .a .now)) (length (a .b .now)) (length (a .out .now)) (sym (c .before .before .before .before .decomposition-number .ensures) ∙ c .before .before .before .if1 .taken) in
+    let o = offset-value (a .p) (g .range) (c .before .before .decomposition-offset .ensures) in
     (in-range _ (g .range), (o, omega (arith, g), omega (arith, g), g .into))
 
 same-length : tie.Need-same-length
 same-length c = search needs
 
 returns : tie.Need-returns
-returns c = let e = c .before .before .before .before .before .before .decomposition-number .ensures in (ap answer e, done _ _ _ (sym e ∙ c .before .before .before .before .before .if1 .taken) (c .before .before .decompose-into .ensures))
+returns c = let e = c .before .before .before .before .before .before .before .decomposition-number .ensures in (ap answer e, done _ _ _ (sym e ∙ c .before .before .before .before .before .before .if1 .taken) (c .before .before .decompose-into .ensures))
 
 returns-2 : tie.Need-returns-2
 returns-2 c = let e = c .before .decomposition-number .ensures in (ap answer e, kept _ _ _ (λ z. c .if1 .left (e ∙ z)))

@@ -19,16 +19,16 @@ decomposition-offset-requires c κs = search needs
 
 pair-digits-into-requires : tie.Need-pair-digits-into-requires
 pair-digits-into-requires c κs =
-    let a = c .before .before .before .before .before .before .before .args in
-    let g = polynomial-good (a .p) (length (a .a .now)) (length (a .b .now)) (a .r) (length (a .out .now)) (sym (c .before .before .before .polynomial-number .ensures) ∙ c .before .before .if1 .taken) in
-    let o = offset-value (a .p) (g .range) (c .before .decomposition-offset .ensures) in
+    let a = c .before .before .before .before .before .before .before .before .args in
+    let g = polynomial-good (a .p) (length (a .a .now)) (length (a .b .now)) (a .r) (length (a .out .now)) (sym (c .before .before .before .before .polynomial-number .ensures) ∙ c .before .before .before .if1 .taken) in
+    let o = offset-value (a .p) (g .range) (c .before .before .decomposition-offset .ensures) in
     (in-range _ (g .range), (g .row, o, omega (arith, g), omega (arith, g), g .into))
 
 same-length : tie.Need-same-length
 same-length c = search needs
 
 returns : tie.Need-returns
-returns c = let e = c .before .before .before .before .before .before .polynomial-number .ensures in (ap answer e, done _ _ _ (sym e ∙ c .before .before .before .before .before .if1 .taken) (c .before .before .pair-digits-into .ensures))
+returns c = let e = c .before .before .before .before .before .before .before .polynomial-number .ensures in (ap answer e, done _ _ _ (sym e ∙ c .before .before .before .before .before .before .if1 .taken) (c .before .before .pair-digits-into .ensures))
 
 returns-2 : tie.Need-returns-2
 returns-2 c = let e = c .before .polynomial-number .ensures in (ap answer e, kept _ _ _ (λ z. c .if1 .left (e ∙ z)))

@@ -14,7 +14,7 @@ use Rattle.key.proofs.decomposition_offset.Tie as tie
 
 -- the two parts together
 abbrev both : Answer → ℕ → Offset
-both a v = record { answer = a; value = v }
+both a v = record { answer = a; value = record { 0 = v } }
 
 -- the answer's number is that of the parameters
 number : {a : Answer} {n : ℕ} → a ≡ record { number = n; place = 0 } → a .number ≡ n

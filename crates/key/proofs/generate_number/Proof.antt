@@ -5,7 +5,7 @@ use Prim.Native.Nat.{_+_, _*_}
 use borrow.Author.Tests.{eq-eqb, ne-eqb}
 use lib.ListN.{length}
 use Rattle.params.specs.Ranges.{paramsNumber}
-use Rattle.params.specs.Sizes.{size, switchingRows, drawingRows}
+use Rattle.params.specs.Sizes.{size, drawingRows, switchingWords}
 use Rattle.tlwe.proofs.Checks.{key-good}
 use Rattle.key.specs.Generation.{generateNumber}
 use Rattle.key.proofs.Checks.{sized, unsized, size-of, key-of, n-of, masks-of, noise-of, key-bad}
@@ -65,7 +65,7 @@ returns-6 c =
     let e = c .before .before .before .before .before .before .before .before .before .before .before .before .sizes-of .ensures in
     let z = c .before .before .before .before .before .before .before .before .before .before .if1 .left in
     simp
-    (eq-eqb (paramsNumber (g .p)) 0 (sized (g .p) e z), eq-eqb (length (g .key-lv0 .now)) (g .p .n) (c .before .before .before .before .before .before .before .before .if2 .left ∙ n-of (g .p) e z), eq-eqb (length (g .key-lv1 .now)) (size (g .p)) (c .before .before .before .before .before .before .if3 .left ∙ size-of (g .p) e z), eq-eqb (g .masks) (drawingRows (g .p) * g .p .n) (c .before .before .before .before .if4 .left ∙ masks-of (g .p) e z), eq-eqb (g .noise) (drawingRows (g .p)) (c .before .before .if5 .left ∙ noise-of (g .p) e z), ne-eqb (g .out) (switchingRows (g .p) * (g .p .n + 1)) (λ q. c .if6 .taken (q ∙ sym (key-of (g .p) e z))))
+    (eq-eqb (paramsNumber (g .p)) 0 (sized (g .p) e z), eq-eqb (length (g .key-lv0 .now)) (g .p .n) (c .before .before .before .before .before .before .before .before .if2 .left ∙ n-of (g .p) e z), eq-eqb (length (g .key-lv1 .now)) (size (g .p)) (c .before .before .before .before .before .before .if3 .left ∙ size-of (g .p) e z), eq-eqb (g .masks) (drawingRows (g .p) * g .p .n) (c .before .before .before .before .if4 .left ∙ masks-of (g .p) e z), eq-eqb (g .noise) (drawingRows (g .p)) (c .before .before .if5 .left ∙ noise-of (g .p) e z), ne-eqb (g .out) (switchingWords (g .p)) (λ q. c .if6 .taken (q ∙ sym (key-of (g .p) e z))))
 
 key-number-requires : tie.Need-key-number-requires
 key-number-requires c κs = search needs
@@ -77,7 +77,7 @@ returns-7 c =
     let e = c .before .before .before .before .before .before .before .before .before .before .before .before .before .before .sizes-of .ensures in
     let z = c .before .before .before .before .before .before .before .before .before .before .before .before .if1 .left in
     simp
-    (eq-eqb (paramsNumber (g .p)) 0 (sized (g .p) e z), eq-eqb (length (g .key-lv0 .now)) (g .p .n) (c .before .before .before .before .before .before .before .before .before .before .if2 .left ∙ n-of (g .p) e z), eq-eqb (length (g .key-lv1 .now)) (size (g .p)) (c .before .before .before .before .before .before .before .before .if3 .left ∙ size-of (g .p) e z), eq-eqb (g .masks) (drawingRows (g .p) * g .p .n) (c .before .before .before .before .before .before .if4 .left ∙ masks-of (g .p) e z), eq-eqb (g .noise) (drawingRows (g .p)) (c .before .before .before .before .if5 .left ∙ noise-of (g .p) e z), eq-eqb (g .out) (switchingRows (g .p) * (g .p .n + 1)) (c .before .before .if6 .left ∙ key-of (g .p) e z), key-bad (g .key-lv0 .now) (λ q. c .if7 .taken (c .before .key-number .ensures ∙ q)))
+    (eq-eqb (paramsNumber (g .p)) 0 (sized (g .p) e z), eq-eqb (length (g .key-lv0 .now)) (g .p .n) (c .before .before .before .before .before .before .before .before .before .before .if2 .left ∙ n-of (g .p) e z), eq-eqb (length (g .key-lv1 .now)) (size (g .p)) (c .before .before .before .before .before .before .before .before .if3 .left ∙ size-of (g .p) e z), eq-eqb (g .masks) (drawingRows (g .p) * g .p .n) (c .before .before .before .before .before .before .if4 .left ∙ masks-of (g .p) e z), eq-eqb (g .noise) (drawingRows (g .p)) (c .before .before .before .before .if5 .left ∙ noise-of (g .p) e z), eq-eqb (g .out) (switchingWords (g .p)) (c .before .before .if6 .left ∙ key-of (g .p) e z), key-bad (g .key-lv0 .now) (λ q. c .if7 .taken (c .before .key-number .ensures ∙ q)))
 
 key-number-requires-2 : tie.Need-key-number-requires-2
 key-number-requires-2 c κs = search needs
@@ -89,7 +89,7 @@ returns-8 c =
     let e = c .before .before .before .before .before .before .before .before .before .before .before .before .before .before .before .before .sizes-of .ensures in
     let z = c .before .before .before .before .before .before .before .before .before .before .before .before .before .before .if1 .left in
     simp
-    (eq-eqb (paramsNumber (g .p)) 0 (sized (g .p) e z), eq-eqb (length (g .key-lv0 .now)) (g .p .n) (c .before .before .before .before .before .before .before .before .before .before .before .before .if2 .left ∙ n-of (g .p) e z), eq-eqb (length (g .key-lv1 .now)) (size (g .p)) (c .before .before .before .before .before .before .before .before .before .before .if3 .left ∙ size-of (g .p) e z), eq-eqb (g .masks) (drawingRows (g .p) * g .p .n) (c .before .before .before .before .before .before .before .before .if4 .left ∙ masks-of (g .p) e z), eq-eqb (g .noise) (drawingRows (g .p)) (c .before .before .before .before .before .before .if5 .left ∙ noise-of (g .p) e z), eq-eqb (g .out) (switchingRows (g .p) * (g .p .n + 1)) (c .before .before .before .before .if6 .left ∙ key-of (g .p) e z), key-good (g .key-lv0 .now) (sym (c .before .before .before .key-number .ensures) ∙ c .before .before .if7 .left), key-bad (g .key-lv1 .now) (λ q. c .if8 .taken (c .before .key-number2 .ensures ∙ q)))
+    (eq-eqb (paramsNumber (g .p)) 0 (sized (g .p) e z), eq-eqb (length (g .key-lv0 .now)) (g .p .n) (c .before .before .before .before .before .before .before .before .before .before .before .before .if2 .left ∙ n-of (g .p) e z), eq-eqb (length (g .key-lv1 .now)) (size (g .p)) (c .before .before .before .before .before .before .before .before .before .before .if3 .left ∙ size-of (g .p) e z), eq-eqb (g .masks) (drawingRows (g .p) * g .p .n) (c .before .before .before .before .before .before .before .before .if4 .left ∙ masks-of (g .p) e z), eq-eqb (g .noise) (drawingRows (g .p)) (c .before .before .before .before .before .before .if5 .left ∙ noise-of (g .p) e z), eq-eqb (g .out) (switchingWords (g .p)) (c .before .before .before .before .if6 .left ∙ key-of (g .p) e z), key-good (g .key-lv0 .now) (sym (c .before .before .before .key-number .ensures) ∙ c .before .before .if7 .left), key-bad (g .key-lv1 .now) (λ q. c .if8 .taken (c .before .key-number2 .ensures ∙ q)))
 
 returns-9 : tie.Need-returns-9
 unfolding generateNumber
@@ -98,7 +98,7 @@ returns-9 c =
     let e = c .before .before .before .before .before .before .before .before .before .before .before .before .before .before .before .before .sizes-of .ensures in
     let z = c .before .before .before .before .before .before .before .before .before .before .before .before .before .before .if1 .left in
     simp
-    (eq-eqb (paramsNumber (g .p)) 0 (sized (g .p) e z), eq-eqb (length (g .key-lv0 .now)) (g .p .n) (c .before .before .before .before .before .before .before .before .before .before .before .before .if2 .left ∙ n-of (g .p) e z), eq-eqb (length (g .key-lv1 .now)) (size (g .p)) (c .before .before .before .before .before .before .before .before .before .before .if3 .left ∙ size-of (g .p) e z), eq-eqb (g .masks) (drawingRows (g .p) * g .p .n) (c .before .before .before .before .before .before .before .before .if4 .left ∙ masks-of (g .p) e z), eq-eqb (g .noise) (drawingRows (g .p)) (c .before .before .before .before .before .before .if5 .left ∙ noise-of (g .p) e z), eq-eqb (g .out) (switchingRows (g .p) * (g .p .n + 1)) (c .before .before .before .before .if6 .left ∙ key-of (g .p) e z), key-good (g .key-lv0 .now) (sym (c .before .before .before .key-number .ensures) ∙ c .before .before .if7 .left), key-good (g .key-lv1 .now) (sym (c .before .key-number2 .ensures) ∙ c .if8 .left))
+    (eq-eqb (paramsNumber (g .p)) 0 (sized (g .p) e z), eq-eqb (length (g .key-lv0 .now)) (g .p .n) (c .before .before .before .before .before .before .before .before .before .before .before .before .if2 .left ∙ n-of (g .p) e z), eq-eqb (length (g .key-lv1 .now)) (size (g .p)) (c .before .before .before .before .before .before .before .before .before .before .if3 .left ∙ size-of (g .p) e z), eq-eqb (g .masks) (drawingRows (g .p) * g .p .n) (c .before .before .before .before .before .before .before .before .if4 .left ∙ masks-of (g .p) e z), eq-eqb (g .noise) (drawingRows (g .p)) (c .before .before .before .before .before .before .if5 .left ∙ noise-of (g .p) e z), eq-eqb (g .out) (switchingWords (g .p)) (c .before .before .before .before .if6 .left ∙ key-of (g .p) e z), key-good (g .key-lv0 .now) (sym (c .before .before .before .key-number .ensures) ∙ c .before .before .if7 .left), key-good (g .key-lv1 .now) (sym (c .before .key-number2 .ensures) ∙ c .if8 .left))
 
 pub generate-number-spec : {M : Type 1} → statement M
 generate-number-spec =

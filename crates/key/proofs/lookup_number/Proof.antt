@@ -4,7 +4,7 @@ use mathlib.Core.Path.{_≡_, sym, _∙_}
 use Prim.Native.Nat.{_+_, _*_}
 use borrow.Author.Tests.{eq-eqb, ne-eqb, lt-ltb, le-ltb}
 use Rattle.params.specs.Ranges.{paramsNumber}
-use Rattle.params.specs.Sizes.{size, base, switchingRows}
+use Rattle.params.specs.Sizes.{size, base, switchingWords}
 use Rattle.key.specs.Switching.{lookupNumber}
 use Rattle.key.proofs.Checks.{sized, unsized, size-of, key-of}
 use Rattle.params.proofs.Ranges.{in-range}
@@ -30,7 +30,7 @@ returns-2 c =
     let n = sized (g .p) e (c .before .before .if1 .left) in
     let z = size-of (g .p) e (c .before .before .if1 .left) in
     let k = key-of (g .p) e (c .before .before .if1 .left) in
-    simp (eq-eqb (paramsNumber (g .p)) 0 n, ne-eqb (g .len) (switchingRows (g .p) * (g .p .n + 1)) (λ q. c .if2 .taken (q ∙ sym k)))
+    simp (eq-eqb (paramsNumber (g .p)) 0 n, ne-eqb (g .len) (switchingWords (g .p)) (λ q. c .if2 .taken (q ∙ sym k)))
 
 returns-3 : tie.Need-returns-3
 unfolding lookupNumber
@@ -40,7 +40,7 @@ returns-3 c =
     let n = sized (g .p) e (c .before .before .before .before .if1 .left) in
     let z = size-of (g .p) e (c .before .before .before .before .if1 .left) in
     let k = key-of (g .p) e (c .before .before .before .before .if1 .left) in
-    simp (eq-eqb (paramsNumber (g .p)) 0 n, eq-eqb (g .len) (switchingRows (g .p) * (g .p .n + 1)) (c .before .before .if2 .left ∙ k), le-ltb (g .i) (size (g .p)) (rw z at (c .if3 .taken)))
+    simp (eq-eqb (paramsNumber (g .p)) 0 n, eq-eqb (g .len) (switchingWords (g .p)) (c .before .before .if2 .left ∙ k), le-ltb (g .i) (size (g .p)) (rw z at (c .if3 .taken)))
 
 cast-if4 : tie.Need-cast-if4
 cast-if4 c = search needs
@@ -53,7 +53,7 @@ returns-4 c =
     let n = sized (g .p) e (c .before .before .before .before .before .before .if1 .left) in
     let z = size-of (g .p) e (c .before .before .before .before .before .before .if1 .left) in
     let k = key-of (g .p) e (c .before .before .before .before .before .before .if1 .left) in
-    simp (eq-eqb (paramsNumber (g .p)) 0 n, eq-eqb (g .len) (switchingRows (g .p) * (g .p .n + 1)) (c .before .before .before .before .if2 .left ∙ k), lt-ltb (g .i) (size (g .p)) (rw z at (c .before .before .if3 .left)), le-ltb (g .j) (g .p .t) (c .if4 .taken))
+    simp (eq-eqb (paramsNumber (g .p)) 0 n, eq-eqb (g .len) (switchingWords (g .p)) (c .before .before .before .before .if2 .left ∙ k), lt-ltb (g .i) (size (g .p)) (rw z at (c .before .before .if3 .left)), le-ltb (g .j) (g .p .t) (c .if4 .taken))
 
 power-requires : tie.Need-power-requires
 power-requires c κs = search needs
@@ -70,7 +70,7 @@ returns-5 c =
     let z = size-of (g .p) e (c .before .before .before .before .before .before .before .before .if1 .left) in
     let k = key-of (g .p) e (c .before .before .before .before .before .before .before .before .if1 .left) in
     let b = base-code (g .p) (in-range (g .p) n) (c .before .power .ensures) in
-    simp (eq-eqb (paramsNumber (g .p)) 0 n, eq-eqb (g .len) (switchingRows (g .p) * (g .p .n + 1)) (c .before .before .before .before .before .before .if2 .left ∙ k), lt-ltb (g .i) (size (g .p)) (rw z at (c .before .before .before .before .if3 .left)), lt-ltb (g .j) (g .p .t) (c .before .before .if4 .left), le-ltb (g .k) (base (g .p)) (rw b at (c .if5 .taken)))
+    simp (eq-eqb (paramsNumber (g .p)) 0 n, eq-eqb (g .len) (switchingWords (g .p)) (c .before .before .before .before .before .before .if2 .left ∙ k), lt-ltb (g .i) (size (g .p)) (rw z at (c .before .before .before .before .if3 .left)), lt-ltb (g .j) (g .p .t) (c .before .before .if4 .left), le-ltb (g .k) (base (g .p)) (rw b at (c .if5 .taken)))
 
 returns-6 : tie.Need-returns-6
 unfolding lookupNumber
@@ -81,7 +81,7 @@ returns-6 c =
     let z = size-of (g .p) e (c .before .before .before .before .before .before .before .before .if1 .left) in
     let k = key-of (g .p) e (c .before .before .before .before .before .before .before .before .if1 .left) in
     let b = base-code (g .p) (in-range (g .p) n) (c .before .power .ensures) in
-    simp (eq-eqb (paramsNumber (g .p)) 0 n, eq-eqb (g .len) (switchingRows (g .p) * (g .p .n + 1)) (c .before .before .before .before .before .before .if2 .left ∙ k), lt-ltb (g .i) (size (g .p)) (rw z at (c .before .before .before .before .if3 .left)), lt-ltb (g .j) (g .p .t) (c .before .before .if4 .left), lt-ltb (g .k) (base (g .p)) (rw b at (c .if5 .left)))
+    simp (eq-eqb (paramsNumber (g .p)) 0 n, eq-eqb (g .len) (switchingWords (g .p)) (c .before .before .before .before .before .before .if2 .left ∙ k), lt-ltb (g .i) (size (g .p)) (rw z at (c .before .before .before .before .if3 .left)), lt-ltb (g .j) (g .p .t) (c .before .before .if4 .left), lt-ltb (g .k) (base (g .p)) (rw b at (c .if5 .left)))
 
 pub lookup-number-spec : {M : Type 1} → statement M
 lookup-number-spec =

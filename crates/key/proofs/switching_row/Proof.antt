@@ -20,10 +20,10 @@ good : (c : tie.Else1) → let g = c .before .before .before .args in LookupGood
 good c = lookup-good _ _ _ _ _ (sym (c .before .lookup-number .ensures) ∙ c .if1 .left)
 
 -- the row's place, and that it ends within the key
-row : (c : tie.After-row-index) → let g = c .before .before .before .before .args in c .row-index .result ≡ rowIndex (g .p) (g .i) (g .j) (g .k)
-row c = let g = c .before .before .before .before .args in let l = good (c .before) in c .row-index .ensures ∙ row-small (g .p) (g .i) (g .j) (g .k) (l .outer) (l .field) (l .digit) (l .range)
+row : (c : tie.After-place-of) → let g = c .before .before .before .before .args in c .place-of .result ≡ rowIndex (g .p) (g .i) (g .j) (g .k)
+row c = let g = c .before .before .before .before .args in let l = good (c .before) in c .place-of .ensures ∙ row-small (g .p) (g .i) (g .j) (g .k) (l .outer) (l .field) (l .digit) (l .range)
 
-ends : (c : tie.After-row-index) → let g = c .before .before .before .before .args in c .row-index .result * (g .p .n + 1) + (g .p .n + 1) ≤ length (g .key .now)
+ends : (c : tie.After-place-of) → let g = c .before .before .before .before .args in c .place-of .result * (g .p .n + 1) + (g .p .n + 1) ≤ length (g .key .now)
 ends c =
     let g = c .before .before .before .before .args in
     let l = good (c .before) in
@@ -38,17 +38,17 @@ slice-aggregate-result c = search needs
 returns : tie.Need-returns
 returns c = kept _ _ _ (λ e. c .before .if1 .taken (c .before .before .lookup-number .ensures ∙ e))
 
-cast-row-index : tie.Need-cast-row-index
-cast-row-index c = let l = good c in omega (arith, size-to _ (l .range))
+cast-place-of : tie.Need-cast-place-of
+cast-place-of c = let l = good c in omega (arith, size-to _ (l .range))
 
-cast-row-index-2 : tie.Need-cast-row-index-2
-cast-row-index-2 c = let l = good c in omega (arith, t-to _ (l .range))
+cast-place-of-2 : tie.Need-cast-place-of-2
+cast-place-of-2 c = let l = good c in omega (arith, t-to _ (l .range))
 
-cast-row-index-3 : tie.Need-cast-row-index-3
-cast-row-index-3 c = let l = good c in omega (arith, base-to _ (l .range))
+cast-place-of-3 : tie.Need-cast-place-of-3
+cast-place-of-3 c = let l = good c in omega (arith, base-to _ (l .range))
 
-row-index-requires : tie.Need-row-index-requires
-row-index-requires c κs = search needs
+place-of-requires : tie.Need-place-of-requires
+place-of-requires c κs = search needs
 
 cast-row : tie.Need-cast-row
 cast-row c = search needs
@@ -89,10 +89,10 @@ switching-row-spec =
     lookup-number-requires
     slice-aggregate-result
     returns
-    cast-row-index
-    cast-row-index-2
-    cast-row-index-3
-    row-index-requires
+    cast-place-of
+    cast-place-of-2
+    cast-place-of-3
+    place-of-requires
     cast-row
     cast-width
     add-width

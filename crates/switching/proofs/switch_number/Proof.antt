@@ -5,7 +5,7 @@ use Prim.Native.Nat.{ℕ, _+_, _*_}
 use borrow.Author.Tests.{eq-eqb, ne-eqb}
 use Rattle.params.specs.declared.Sizes.{Sizes}
 use Rattle.params.specs.Ranges.{paramsNumber}
-use Rattle.params.specs.Sizes.{size, switchingRows, sizesIn}
+use Rattle.params.specs.Sizes.{size, sizesIn, switchingWords}
 use Rattle.key.proofs.Checks.{sized, unsized, lengths}
 use Rattle.switching.specs.Switched.{switchNumber}
 use borrow.Author.Needs.{needs}
@@ -44,7 +44,7 @@ returns-3 c =
     simp (
       eq-eqb _ 0 (number-is d),
       eq-eqb (a .ls) (size (a .p) + 1) (c .before .before .if2 .left ∙ l),
-      ne-eqb (a .lk) (switchingRows (a .p) * (a .p .n + 1)) (λ e. c .if3 .taken (e ∙ sym k)),
+      ne-eqb (a .lk) (switchingWords (a .p)) (λ e. c .if3 .taken (e ∙ sym k)),
     )
 
 returns-4 : tie.Need-returns-4
@@ -58,7 +58,7 @@ returns-4 c =
     simp (
       eq-eqb _ 0 (number-is d),
       eq-eqb (a .ls) (size (a .p) + 1) (c .before .before .before .before .if2 .left ∙ l),
-      eq-eqb (a .lk) (switchingRows (a .p) * (a .p .n + 1)) (c .before .before .if3 .left ∙ k),
+      eq-eqb (a .lk) (switchingWords (a .p)) (c .before .before .if3 .left ∙ k),
       ne-eqb (a .lo) (a .p .n + 1) (λ e. c .if4 .taken (e ∙ sym o)),
     )
 
@@ -73,7 +73,7 @@ returns-5 c =
     simp (
       eq-eqb _ 0 (number-is d),
       eq-eqb (a .ls) (size (a .p) + 1) (c .before .before .before .before .if2 .left ∙ l),
-      eq-eqb (a .lk) (switchingRows (a .p) * (a .p .n + 1)) (c .before .before .if3 .left ∙ k),
+      eq-eqb (a .lk) (switchingWords (a .p)) (c .before .before .if3 .left ∙ k),
       eq-eqb (a .lo) (a .p .n + 1) (c .if4 .left ∙ o),
     )
 

@@ -14,7 +14,7 @@ pack-with-requires : tie.Need-pack-with-requires
 pack-with-requires c κs = search needs
 
 returns : tie.Need-returns
-returns c = c .pack-with .ensures ∙ ap (λ (x : Offset). packedWith (x .answer) (x .value)) (c .before .before .decomposition-offset .ensures)
+returns c = c .pack-with .ensures ∙ ap (λ (x : Offset). packedWith (x .answer) (x .value .0)) (c .before .before .before .decomposition-offset .ensures)
 
 pub egl-key-decomposition-offset-spec : {M : Type 1} → statement M
 egl-key-decomposition-offset-spec =

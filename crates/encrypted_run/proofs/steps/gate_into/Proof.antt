@@ -1,6 +1,6 @@
 -- `encrypted_run::steps::gate_into` meets its contract: the gate's fields are read off the bytes, and its operands lie among the wires before it.
 -- Assumes nothing.
-use mathlib.Core.Path.{_≡_, sym, ap₂, _∙_}
+use mathlib.Core.Path.{_≡_, sym, ap, ap₂, _∙_}
 use Prim.Native.Nat.{ℕ, _+_, _*_, _-_, _≤_}
 use native.Mathlib.Nat.{mul-le-mul-right}
 use native.Mathlib.Omega.{arith}
@@ -8,8 +8,9 @@ use lib.ListN.{length, take}
 use Rattle.circuit.specs.Form.{inputs, gates, wires, kindAt, operandAt}
 use Rattle.encrypted_run.proofs.Ciphers.{words-to}
 use Rattle.encrypted_run.proofs.Operands.{inputs-are}
+use Rattle.encrypted_run.specs.Ways.{wayOf}
 use lib.Seq.{length-take-le}
-use Rattle.encrypted_run.proofs.Operands.{there, reads-as, kind-to, gate-made}
+use Rattle.encrypted_run.proofs.Operands.{there, reads-as, gate-made}
 use borrow.Author.Needs.{needs}
 use Rattle.encrypted_run.proofs.steps.gate_into.Statement.{statement}
 use Rattle.encrypted_run.proofs.steps.gate_into.Tie as tie
@@ -31,17 +32,19 @@ own-fits c =
     rw (s .pre .0 .wires-length) m
 
 -- what is read of the gate
-kind : (c : tie.After-kind-at) → let s = c .before .before .before .before .before .before .before .before in c .kind-at .result ≡ kindAt (s .args .bytes .now) (s .args .g)
-kind c = let s = c .before .before .before .before .before .before .before .before in there (s .args .g) (gates (s .args .bytes .now)) (kindAt (s .args .bytes .now) (s .args .g)) (s .pre .1) (c .kind-at .ensures)
+way : (c : tie.After-way-of) → let s = c .before .before .before .before .before .before .before .before .before in c .way-of .result ≡ wayOf (kindAt (s .args .bytes .now) (s .args .g))
+way c =
+    let s = c .before .before .before .before .before .before .before .before .before in
+    c .way-of .ensures ∙ ap wayOf (there (s .args .g) (gates (s .args .bytes .now)) (kindAt (s .args .bytes .now) (s .args .g)) (s .pre .1) (c .before .kind-at .ensures))
 
-first : (c : tie.After-operand-at) → let s = c .before .before .before .before .before .before .before .before .before in c .operand-at .result ≡ operandAt (s .args .bytes .now) (s .args .g) 0
-first c = let s = c .before .before .before .before .before .before .before .before .before in there (s .args .g) (gates (s .args .bytes .now)) (operandAt (s .args .bytes .now) (s .args .g) 0) (s .pre .1) (c .operand-at .ensures)
+first : (c : tie.After-operand-at) → let s = c .before .before .before .before .before .before .before .before .before .before in c .operand-at .result ≡ operandAt (s .args .bytes .now) (s .args .g) 0
+first c = let s = c .before .before .before .before .before .before .before .before .before .before in there (s .args .g) (gates (s .args .bytes .now)) (operandAt (s .args .bytes .now) (s .args .g) 0) (s .pre .1) (c .operand-at .ensures)
 
-second : (c : tie.After-operand-at2) → let s = c .before .before .before .before .before .before .before .before .before .before in c .operand-at2 .result ≡ operandAt (s .args .bytes .now) (s .args .g) 1
-second c = let s = c .before .before .before .before .before .before .before .before .before .before in there (s .args .g) (gates (s .args .bytes .now)) (operandAt (s .args .bytes .now) (s .args .g) 1) (s .pre .1) (c .operand-at2 .ensures)
+second : (c : tie.After-operand-at2) → let s = c .before .before .before .before .before .before .before .before .before .before .before in c .operand-at2 .result ≡ operandAt (s .args .bytes .now) (s .args .g) 1
+second c = let s = c .before .before .before .before .before .before .before .before .before .before .before in there (s .args .g) (gates (s .args .bytes .now)) (operandAt (s .args .bytes .now) (s .args .g) 1) (s .pre .1) (c .operand-at2 .ensures)
 
-third : (c : tie.After-operand-at3) → let s = c .before .before .before .before .before .before .before .before .before .before .before in c .operand-at3 .result ≡ operandAt (s .args .bytes .now) (s .args .g) 2
-third c = let s = c .before .before .before .before .before .before .before .before .before .before .before in there (s .args .g) (gates (s .args .bytes .now)) (operandAt (s .args .bytes .now) (s .args .g) 2) (s .pre .1) (c .operand-at3 .ensures)
+third : (c : tie.After-operand-at3) → let s = c .before .before .before .before .before .before .before .before .before .before .before .before in c .operand-at3 .result ≡ operandAt (s .args .bytes .now) (s .args .g) 2
+third c = let s = c .before .before .before .before .before .before .before .before .before .before .before .before in there (s .args .g) (gates (s .args .bytes .now)) (operandAt (s .args .bytes .now) (s .args .g) 2) (s .pre .1) (c .operand-at3 .ensures)
 
 -- the words that the gate is lent
 lent : (c : tie.After-struct-known) → let s = c .before .before .before .before .before .before .before in let end = (c .before .counts .result .inputs + s .args .g) * length (s .args .out .now) in length (take end (s .args .wires .now)) ≡ end
@@ -78,6 +81,9 @@ mul-end c =
 kind-at-requires : tie.Need-kind-at-requires
 kind-at-requires c κs = search needs
 
+way-of-requires : tie.Need-way-of-requires
+way-of-requires c κs = search needs
+
 operand-at-requires : tie.Need-operand-at-requires
 operand-at-requires c κs = search needs
 
@@ -88,17 +94,15 @@ operand-at-requires-3 : tie.Need-operand-at-requires-3
 operand-at-requires-3 c κs = search needs
 
 slice-aggregate-way-into : tie.Need-slice-aggregate-way-into
-slice-aggregate-way-into c = sym (lent (c .before .before .before .before .before))
+slice-aggregate-way-into c = sym (lent (c .before .before .before .before .before .before))
 
 way-into-requires : tie.Need-way-into-requires
 way-into-requires c κs =
-    let s = c .before .before .before .before .before .before .before .before .before .before .before .before .before in
+    let s = c .before .before .before .before .before .before .before .before .before .before .before .before .before .before in
     let h = s .pre in
-    let b = s .args .bytes .now in
-    let k = kind (c .before .before .before .before .before) in (
+    let b = s .args .bytes .now in (
       h .0 .keys,
-      kind-to (s .args .p) b (h .0 .valid) (s .args .g) (h .1) k,
-      reads-as (s .args .p) b (h .0 .valid) (s .args .g) (h .1) k (first (c .before .before .before .before)) (second (c .before .before .before)) (third (c .before .before)) (lent (c .before .before .before .before .before .before) ∙ before-own (c .before .before .before .before .before .before)),
+      reads-as (s .args .p) b (h .0 .valid) (s .args .g) (h .1) (way (c .before .before .before .before .before)) (first (c .before .before .before .before)) (second (c .before .before .before)) (third (c .before .before)) (lent (c .before .before .before .before .before .before .before) ∙ before-own (c .before .before .before .before .before .before .before)),
       h .2,
     )
 
@@ -107,9 +111,9 @@ same-length c = search needs
 
 returns : tie.Need-returns
 returns c =
-    let s = c .before .before .before .before .before .before .before .before .before .before .before .before .before .before .before .before in
+    let s = c .before .before .before .before .before .before .before .before .before .before .before .before .before .before .before .before .before in
     let g = s .args in
-    gate-made (g .p) (g .ksk .now) (g .bsk .now) (g .bytes .now) (g .wires .now) (g .g) (kind (c .before .before .before .before .before .before .before .before)) (first (c .before .before .before .before .before .before .before)) (second (c .before .before .before .before .before .before)) (third (c .before .before .before .before .before)) (before-own (c .before .before .before .before .before .before .before .before .before)) (c .before .before .way-into .ensures)
+    gate-made (g .p) (g .ksk .now) (g .bsk .now) (g .bytes .now) (g .wires .now) (g .g) (way (c .before .before .before .before .before .before .before .before)) (first (c .before .before .before .before .before .before .before)) (second (c .before .before .before .before .before .before)) (third (c .before .before .before .before .before)) (before-own (c .before .before .before .before .before .before .before .before .before .before)) (c .before .before .way-into .ensures)
 
 pub gate-into-spec : {M : Type 1} → statement M
 gate-into-spec =
@@ -119,6 +123,7 @@ gate-into-spec =
     add-end
     mul-end
     kind-at-requires
+    way-of-requires
     operand-at-requires
     operand-at-requires-2
     operand-at-requires-3

@@ -1,0 +1,100 @@
+-- A gate's phase, whatever its drift: the side on which the rounded turn falls gives the front of the turned test vector, so the phase is ±2^29 by that side plus
+-- the drift that 01 reckons. The rotation's identity, extraction and switching, one after another.
+-- Assumes nothing.
+use mathlib.Core.Path.{_≡_, sym, ap, ap₂, _∙_}
+use mathlib.Core.Bool.{Bool, true, cond}
+use mathlib.Core.List.{List}
+use Prim.Native.Nat.{ℕ, _+_, _-_, _%_, _^_, _≤_, _<_}
+use native.Mathlib.Nat.{mod-lt, add-mod, mod-add-mod}
+use native.Mathlib.Omega.{arith}
+use lib.Dec.{ltb, ltb→lt, nltb→le}
+use Rattle.ring.specs.Word.{Q, at, neg}
+use Rattle.ring.specs.Turn.{source, negating}
+use Rattle.ring.specs.Phase.{after}
+use Rattle.ring.proofs.Tab.{at-tab}
+use Rattle.ring.proofs.Value.{by-test}
+use Rattle.params.specs.declared.Params.{Params}
+use Rattle.params.specs.Ranges.{InRange}
+use Rattle.params.specs.Sizes.{size}
+use Rattle.params.proofs.Ranges.{size-from}
+use Rattle.key.specs.Testvec.{testB}
+use Rattle.tlwe.specs.Key.{binary, phaseOf}
+use Rattle.tlwe.specs.Plain.{bitWord}
+use Rattle.trlwe.proofs.Pairs.{phase-extracted}
+use Rattle.blind_rotation.specs.Blind.{blindRotated, testPair}
+use Rattle.blind_rotation.specs.Drift.{turnTo, driftTo}
+use Rattle.switching.specs.Drift.{switchingDrift}
+use Rattle.switching.proofs.Phase.{switching-phase}
+use Rattle.gates.specs.declared.Kind.the-variants.{And, AndNy}
+use Rattle.gates.specs.Kind.{eighth}
+use Rattle.gates.specs.Sum.{summed, muxSum}
+use Rattle.gates.specs.Gate.{rotatedSample, bootstrapped, muxed}
+use Rattle.gates.proofs.Stores.{at-plus}
+use Rattle.drift.specs.Short.{sideOf}
+use Rattle.drift.specs.Words.{extractedWord, gateWord, muxWord}
+use Rattle.drift.proofs.Track.{tracked}
+use Rattle.drift.proofs.Phases.{key-bit, mux-phase}
+
+-- a drift behind a bit
+behind : (b d s : ℕ) → ((b + d) % Q + s) % Q ≡ (b + (d + s) % Q) % Q
+unfolding Q
+behind b d s = omega arith
+
+flatten : (x y c s : ℕ) → (((x % Q + y % Q) % Q + c) % Q + s) % Q ≡ (x + y + c + s) % Q
+flatten x y c s =
+    ap (λ (t : ℕ). ((t + c) % Q + s) % Q) (sym (add-mod x y Q)) ∙ ap (λ (t : ℕ). (t + s) % Q) (mod-add-mod (x + y) Q c) ∙ mod-add-mod (x + y + c) Q s
+
+gather : (x y d e c s : ℕ) → (x + d + (y + e) + c + s) % Q ≡ ((x + y + c) % Q + (d + e + s) % Q) % Q
+unfolding Q
+gather x y d e c s = omega arith
+
+join : (x y d e s c : ℕ) → ((((x + d) % Q + (y + e) % Q) % Q + c) % Q + s) % Q ≡ ((x + y + c) % Q + (d + e + s) % Q) % Q
+join x y d e s c = flatten (x + d) (y + e) c s ∙ gather x y d e c s
+
+-- the front of the turned test vector, by the side
+side-front : (p : Params) (key src : List ℕ) → at (negating (size p) (turnTo p key src (p .n)) (testB p)) 0 ≡ bitWord (sideOf p key src)
+unfolding sideOf negating source neg Q
+side-front p key src =
+    let N = size p in
+    let S = source N (turnTo p key src (p .n)) 0 in
+    at-tab N _ 0 (size-from p)
+    ∙ by-test (ltb S N) (λ (c : Bool). cond c (at (testB p) S) (neg (at (testB p) (S - N)) % Q) ≡ bitWord c)
+    (λ t. at-tab N (λ i. 2 ^ 29) S (ltb→lt S N t))
+    (λ t. let u : N ≤ S = nltb→le S N t in
+    let b : S < N + N = mod-lt _ (let q : 0 < N + N = omega (arith, size-from p) in q) in
+    ap (λ (x : ℕ). (2 ^ 32 - x % 2 ^ 32) % 2 ^ 32) (at-tab N (λ i. 2 ^ 29) (S - N) (omega arith)))
+
+module _ (p : Params) (r : InRange p) (key z : List ℕ) (binary-key : binary key ≡ true) (ksk bsk : List ℕ) where
+  -- the extracted sample of a rotation
+  pub extracted-side : (src : List ℕ) → phaseOf (size p) z (rotatedSample p bsk src) ≡ (bitWord (sideOf p key src) + extractedWord p key z bsk src) % Q
+  unfolding rotatedSample extractedWord
+  extracted-side src =
+      let N = size p in
+      let d = driftTo p key z bsk src (testPair p) (p .n) in
+      phase-extracted N (size-from p) 0 z (blindRotated p bsk src (testPair p) .a) (blindRotated p bsk src (testPair p) .b) (size-from p)
+      ∙ ap (λ (t : ℕ). (t + after N 0 z) % Q)
+      (ap (λ (u : List ℕ). at u 0) (tracked p r key z bsk src (key-bit key binary-key)) ∙ at-plus N _ d 0 (size-from p) ∙ ap (λ (t : ℕ). (t + at d 0) % Q) (side-front p key src))
+      ∙ behind (bitWord (sideOf p key src)) (at d 0) (after N 0 z)
+
+  -- a gate
+  pub gate-side : (src : List ℕ) → phaseOf (p .n) key (bootstrapped p bsk ksk src) ≡ (bitWord (sideOf p key src) + gateWord p key z ksk bsk src) % Q
+  unfolding bootstrapped gateWord
+  gate-side src =
+      switching-phase p r z (rotatedSample p bsk src) key ksk
+      ∙ ap (λ (t : ℕ). (t + switchingDrift p key z ksk (rotatedSample p bsk src)) % Q) (extracted-side src)
+      ∙ behind (bitWord (sideOf p key src)) (extractedWord p key z bsk src) (switchingDrift p key z ksk (rotatedSample p bsk src))
+
+  -- `mux`
+  pub mux-side : (a b c : List ℕ) → let s1 = summed p And a b in
+      let s2 = summed p AndNy a c in
+      phaseOf (p .n) key (muxed p ksk bsk a b c) ≡ ((bitWord (sideOf p key s1) + bitWord (sideOf p key s2) + eighth) % Q + muxWord p key z ksk bsk s1 s2) % Q
+  unfolding muxed muxWord
+  mux-side a b c =
+      let s1 = summed p And a b in
+      let s2 = summed p AndNy a c in
+      let u = rotatedSample p bsk s1 in
+      let v = rotatedSample p bsk s2 in
+      switching-phase p r z (muxSum p u v) key ksk
+      ∙ ap (λ (t : ℕ). (t + switchingDrift p key z ksk (muxSum p u v)) % Q)
+      (mux-phase p z u v ∙ ap₂ (λ (s t : ℕ). ((s + t) % Q + eighth) % Q) (extracted-side s1) (extracted-side s2))
+      ∙ join (bitWord (sideOf p key s1)) (bitWord (sideOf p key s2)) (extractedWord p key z bsk s1) (extractedWord p key z bsk s2) (switchingDrift p key z ksk (muxSum p u v)) eighth

@@ -1,0 +1,9 @@
+pub mod Steps
+pub mod Told
+pub mod Drifts
+pub mod Lent
+pub mod Calls
+pub mod Checks
+pub mod Results
+pub mod Determined
+pub mod Laws

@@ -1,0 +1,82 @@
+-- `drift_run::ways::choice` meets its contract: the wire's phase less what both rotations' sides and the eighth put into it.
+-- Assumes nothing.
+use mathlib.Core.Path.{ap, _∙_}
+use Prim.Native.Nat.{ℕ, _+_, _%_}
+use Rattle.ring.specs.Word.{Q, neg}
+use Rattle.tlwe.specs.Plain.{bitWord}
+use Rattle.gates.specs.Kind.{eighth}
+use Rattle.drift.specs.Short.{carriedWord, shortWord}
+use Rattle.drift_run.proofs.Told.{told-two, carried-sum}
+use borrow.Author.Needs.{needs}
+use Rattle.drift_run.proofs.ways.choice.Statement.{statement}
+use Rattle.drift_run.proofs.ways.choice.Tie as tie
+
+rotation-requires : tie.Need-rotation-requires
+rotation-requires c κs = search needs
+
+rotation-requires-2 : tie.Need-rotation-requires-2
+rotation-requires-2 c κs = search needs
+
+bit-word-requires : tie.Need-bit-word-requires
+bit-word-requires c κs = search needs
+
+bit-word-requires-2 : tie.Need-bit-word-requires-2
+bit-word-requires-2 c κs = search needs
+
+add-requires : tie.Need-add-requires
+add-requires c κs = search needs
+
+add-requires-2 : tie.Need-add-requires-2
+add-requires-2 c κs = search needs
+
+phase-requires : tie.Need-phase-requires
+phase-requires c κs = search needs
+
+sub-requires : tie.Need-sub-requires
+sub-requires c κs = search needs
+
+word-inside-requires : tie.Need-word-inside-requires
+word-inside-requires c κs = search needs
+
+word-inside-requires-2 : tie.Need-word-inside-requires-2
+word-inside-requires-2 c κs = search needs
+
+both-requires : tie.Need-both-requires
+both-requires c κs = search needs
+
+both-requires-2 : tie.Need-both-requires-2
+both-requires-2 c κs = search needs
+
+worse-requires : tie.Need-worse-requires
+worse-requires c κs = search needs
+
+worse-requires-2 : tie.Need-worse-requires-2
+worse-requires-2 c κs = search needs
+
+returns : tie.Need-returns
+unfolding shortWord carriedWord
+returns c =
+    told-two
+    (c .before .before .before .before .before .before .sub .ensures ∙ ap (λ (x : ℕ). (x + neg (c .before .before .before .before .before .before .before .before .add2 .result)) % Q) (c .before .before .before .before .before .before .before .phase .ensures)
+    ∙ carried-sum _ eighth (c .before .before .before .before .before .before .before .before .before .before .before .bit-word .ensures ∙ ap bitWord (c .before .before .before .before .before .before .before .before .before .before .before .before .before .rotation .ensures .0)) (c .before .before .before .before .before .before .before .before .before .before .bit-word2 .ensures ∙ ap bitWord (c .before .before .before .before .before .before .before .before .before .before .before .before .rotation2 .ensures .0)) (c .before .before .before .before .before .before .before .before .before .add .ensures) (c .before .before .before .before .before .before .before .before .add2 .ensures))
+    (c .before .before .before .before .before .before .before .before .before .before .before .before .before .rotation .ensures .1) (c .before .before .before .before .before .before .before .before .before .before .before .before .rotation2 .ensures .1) (c .before .before .before .before .before .word-inside .ensures) (c .before .before .before .before .word-inside2 .ensures) (c .before .before .before .both .ensures) (c .before .before .both2 .ensures) (c .before .worse .ensures) (c .worse2 .ensures)
+
+pub choice-spec : {M : Type 1} → statement M
+choice-spec =
+    tie.close
+    (tie.spec
+    rotation-requires
+    rotation-requires-2
+    bit-word-requires
+    bit-word-requires-2
+    add-requires
+    add-requires-2
+    phase-requires
+    sub-requires
+    word-inside-requires
+    word-inside-requires-2
+    both-requires
+    both-requires-2
+    worse-requires
+    worse-requires-2
+    returns)

@@ -1,0 +1,102 @@
+-- `drift_run::ways::way_drift` meets its contract: by the way.
+-- Assumes nothing.
+use mathlib.Core.Path.{sym, ap, _∙_}
+use mathlib.Core.List.{[]}
+use Prim.Native.Nat.{ℕ}
+use Rattle.encrypted_run.specs.declared.Way.{Way}
+use Rattle.encrypted_run.specs.Ways.{rotationsOf, rotationSum}
+use Rattle.drift.specs.CircuitWords.{wayBroughtWords}
+use Rattle.drift.specs.Short.{carriedWord, shortWord}
+use Rattle.drift_run.specs.Private.{drifted}
+use borrow.Author.Needs.{needs}
+use Rattle.drift_run.proofs.ways.way_drift.Statement.{statement}
+use Rattle.drift_run.proofs.ways.way_drift.Tie as tie
+
+enum-known-way : tie.Need-enum-known-way
+enum-known-way c = search needs
+
+known-requires : tie.Need-known-requires
+known-requires c κs = search needs
+
+enum-told : tie.Need-enum-told
+enum-told c = search needs
+
+negated-requires : tie.Need-negated-requires
+negated-requires c κs = search needs
+
+still-requires : tie.Need-still-requires
+still-requires c κs = search needs
+
+enum-known-way-2 : tie.Need-enum-known-way-2
+enum-known-way-2 c = search needs
+
+one-requires : tie.Need-one-requires
+one-requires c κs = search needs
+
+enum-known-way-3 : tie.Need-enum-known-way-3
+enum-known-way-3 c = search needs
+
+one-negated-requires : tie.Need-one-negated-requires
+one-negated-requires c κs = search needs
+
+enum-told-2 : tie.Need-enum-told-2
+enum-told-2 c = search needs
+
+choice-requires : tie.Need-choice-requires
+choice-requires c κs = search needs
+
+returns : tie.Need-returns
+unfolding shortWord wayBroughtWords rotationsOf rotationSum
+returns c =
+    let s = c .before .before .before .before .before .before .before .before .before in
+    let g = s .args in
+    c .known .ensures ∙ ap (λ (w : Way). drifted (shortWord (g .p) (g .key .now) w (g .a .now) (g .b .now) (g .c .now) (g .da) (g .own .now)) (wayBroughtWords (g .p) (g .key .now) w (g .a .now) (g .b .now) (g .c .now) (g .da) (g .db) (g .dc))) (sym (c .before .before .way .given .1))
+
+returns-2 : tie.Need-returns-2
+unfolding shortWord wayBroughtWords rotationsOf rotationSum
+returns-2 c =
+    let s = c .before .before .before .before .before .before .before .before .before in
+    let g = s .args in
+    c .still .ensures ∙ ap (λ (d : ℕ). drifted d []) (c .before .negated .ensures) ∙ ap (λ (w : Way). drifted (shortWord (g .p) (g .key .now) w (g .a .now) (g .b .now) (g .c .now) (g .da) (g .own .now)) (wayBroughtWords (g .p) (g .key .now) w (g .a .now) (g .b .now) (g .c .now) (g .da) (g .db) (g .dc))) (sym (c .before .before .enum-told .given .1))
+
+returns-3 : tie.Need-returns-3
+unfolding shortWord wayBroughtWords rotationsOf rotationSum carriedWord
+returns-3 c =
+    let s = c .before .before .before .before .before .before .before .before .before in
+    let g = s .args in
+    c .one .ensures ∙ ap (λ (w : Way). drifted (shortWord (g .p) (g .key .now) w (g .a .now) (g .b .now) (g .c .now) (g .da) (g .own .now)) (wayBroughtWords (g .p) (g .key .now) w (g .a .now) (g .b .now) (g .c .now) (g .da) (g .db) (g .dc))) (sym (c .before .before .way2 .given .1))
+
+returns-4 : tie.Need-returns-4
+unfolding shortWord wayBroughtWords rotationsOf rotationSum carriedWord
+returns-4 c =
+    let s = c .before .before .before .before .before .before .before .before .before in
+    let g = s .args in
+    c .one-negated .ensures ∙ ap (λ (w : Way). drifted (shortWord (g .p) (g .key .now) w (g .a .now) (g .b .now) (g .c .now) (g .da) (g .own .now)) (wayBroughtWords (g .p) (g .key .now) w (g .a .now) (g .b .now) (g .c .now) (g .da) (g .db) (g .dc))) (sym (c .before .before .way3 .given .1))
+
+returns-5 : tie.Need-returns-5
+unfolding shortWord wayBroughtWords rotationsOf rotationSum
+returns-5 c =
+    let s = c .before .before .before .before .before .before .before .before in
+    let g = s .args in
+    c .choice .ensures ∙ ap (λ (w : Way). drifted (shortWord (g .p) (g .key .now) w (g .a .now) (g .b .now) (g .c .now) (g .da) (g .own .now)) (wayBroughtWords (g .p) (g .key .now) w (g .a .now) (g .b .now) (g .c .now) (g .da) (g .db) (g .dc))) (sym (c .before .enum-told2 .given .1))
+
+pub way-drift-spec : {M : Type 1} → statement M
+way-drift-spec =
+    tie.close
+    (tie.spec
+    enum-known-way
+    known-requires
+    enum-told
+    negated-requires
+    still-requires
+    enum-known-way-2
+    one-requires
+    enum-known-way-3
+    one-negated-requires
+    enum-told-2
+    choice-requires
+    returns
+    returns-2
+    returns-3
+    returns-4
+    returns-5)

@@ -1,0 +1,21 @@
+-- `egl_key_row_index` meets its contract: it packs what the routine answers.
+-- Assumes nothing.
+use mathlib.Core.Path.{_∙_, ap}
+use Rattle.key.specs.declared.RowPlace.{RowPlace}
+use Rattle.egl_c.specs.Packed.{packedWith}
+use borrow.Author.Needs.{needs}
+use Rattle.egl_c.proofs.key_c.egl_key_row_index.Statement.{statement}
+use Rattle.egl_c.proofs.key_c.egl_key_row_index.Tie as tie
+
+row-index-requires : tie.Need-row-index-requires
+row-index-requires c κs = search needs
+
+pack-with-requires : tie.Need-pack-with-requires
+pack-with-requires c κs = search needs
+
+returns : tie.Need-returns
+returns c = c .pack-with .ensures ∙ ap (λ (x : RowPlace). packedWith (x .answer) (x .value)) (c .before .before .row-index .ensures)
+
+pub egl-key-row-index-spec : {M : Type 1} → statement M
+egl-key-row-index-spec =
+    tie.close (tie.spec row-index-requires pack-with-requires returns)
