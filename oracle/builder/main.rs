@@ -86,14 +86,16 @@ fn sets(o: &Options) -> Vec<Set> {
     out
 }
 
+/// The functions that a file in ffi/ declares: a group's own, which it has to see do their work.
+fn own(o: &Options, file: &str) -> Vec<String> {
+    let path = o.root.join(format!("oracle/driver/ffi/{file}.rs"));
+    let text = fs::read_to_string(&path).unwrap_or_else(|e| fail(&format!("{}: {e}", path.display())));
+    declared::harness(&text).into_iter().map(|f| f.name).collect()
+}
+
 /// The functions that a group needs.
 fn functions(o: &Options, group: &str) -> Vec<String> {
-    let declared = |file: &&str| {
-        let path = o.root.join(format!("oracle/driver/ffi/{file}.rs"));
-        let text = fs::read_to_string(&path).unwrap_or_else(|e| fail(&format!("{}: {e}", path.display())));
-        declared::harness(&text)
-    };
-    declarations(group).iter().flat_map(declared).map(|f| f.name).collect()
+    declarations(group).iter().flat_map(|file| own(o, file)).collect()
 }
 
 /// The asked groups, all of them unless some are named. A function that the archive lacks is an error, or with `--offered` leaves out its groups, and that is said.
@@ -252,7 +254,7 @@ fn main() {
         text.push_str(&String::from_utf8_lossy(&archive));
     }
     std::env::set_var("ORACLE_SETS", out.join("sets.rs"));
-    let names: BTreeSet<String> = groups.iter().flat_map(|g| functions(&o, g)).collect();
+    let names: BTreeSet<String> = groups.iter().flat_map(|g| own(&o, g)).collect();
     std::env::set_var("ORACLE_FUNCTIONS", names.into_iter().collect::<Vec<_>>().join(","));
     let binary = out.join("driver");
     compile(&binary, &text, &args);
