@@ -21,9 +21,6 @@ Inv-loop p src key ta₀ tb₀ a₀ b₀ steps i₀ ta tb a b i =
 abbrev μ-loop : tie.MeasureT-loop
 μ-loop p src key ta₀ tb₀ a₀ b₀ steps i₀ ta tb a b i = p .n - i
 
-cast-steps : tie.Need-cast-steps Inv-loop μ-loop
-cast-steps c = omega arith
-
 loop-holds : tie.Need-loop-holds Inv-loop μ-loop
 unfolding stepsTo
 loop-holds c = let r = c .before .before .before .before .before .before .before .pre .1 in (omega arith, r .2, r .3, r .4, r .5, refl, refl)
@@ -75,19 +72,5 @@ returns c =
 pub all-steps-spec : {M : Type 1} → statement M
 all-steps-spec =
     tie.close
-    (tie.spec
-    Inv-loop
-    μ-loop
-    cast-steps
-    loop-holds
-    mul-t12
-    shared-slice-read-t14
-    step-at-requires
-    add-i
-    loop-less
-    loop-again
-    same-length
-    same-length-2
-    same-length-3
-    same-length-4
-    returns)
+    (tie.spec Inv-loop μ-loop (λ c. omega arith) loop-holds mul-t12 shared-slice-read-t14 step-at-requires add-i loop-less loop-again same-length same-length-2
+    same-length-3 same-length-4 returns)

@@ -12,9 +12,6 @@ use Rattle.blind_rotation.specs.Refusals.{blindNumber}
 use Rattle.blind_rotation.proofs.blind_number.Statement.{statement}
 use Rattle.blind_rotation.proofs.blind_number.Tie as tie
 
-sizes-of-requires : tie.Need-sizes-of-requires
-sizes-of-requires c κs = search needs
-
 returns : tie.Need-returns
 unfolding blindNumber
 returns c =
@@ -83,4 +80,5 @@ returns-6 c =
 
 pub blind-number-spec : {M : Type 1} → statement M
 blind-number-spec =
-    tie.close (tie.spec sizes-of-requires returns returns-2 returns-3 returns-4 returns-5 returns-6)
+    tie.close
+    (tie.spec (λ c κs. search needs) returns returns-2 returns-3 returns-4 returns-5 returns-6)

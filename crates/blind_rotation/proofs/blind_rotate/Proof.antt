@@ -13,20 +13,11 @@ use borrow.Author.Needs.{needs}
 use Rattle.blind_rotation.proofs.blind_rotate.Statement.{statement}
 use Rattle.blind_rotation.proofs.blind_rotate.Tie as tie
 
-blind-number-requires : tie.Need-blind-number-requires
-blind-number-requires c κs = tt
-
 put-rotated-requires : tie.Need-put-rotated-requires
 put-rotated-requires c κs =
     let a = c .before .before .before .before .before .before .before .before .args in
     let g = blind-good (a .p) (length (a .src .now)) (length (a .key .now)) (length (a .a .now)) (length (a .b .now)) (sym (c .before .before .before .blind-number .ensures) ∙ c .before .before .if1 .taken) in
     (g .range, (g .source, g .key, g .first, g .second))
-
-same-length : tie.Need-same-length
-same-length c = search needs
-
-same-length-2 : tie.Need-same-length-2
-same-length-2 c = search needs
 
 returns : tie.Need-returns
 returns c =
@@ -49,10 +40,4 @@ returns-2 c =
 pub blind-rotate-spec : {M : Type 1} → statement M
 blind-rotate-spec =
     tie.close
-    (tie.spec
-    blind-number-requires
-    put-rotated-requires
-    same-length
-    same-length-2
-    returns
-    returns-2)
+    (tie.spec (λ c κs. tt) put-rotated-requires (λ c. search needs) (λ c. search needs) returns returns-2)

@@ -13,20 +13,11 @@ use borrow.Author.Needs.{needs}
 use Rattle.blind_rotation.proofs.blind_rotate_step.Statement.{statement}
 use Rattle.blind_rotation.proofs.blind_rotate_step.Tie as tie
 
-step-number-requires : tie.Need-step-number-requires
-step-number-requires c κs = tt
-
 put-step-requires : tie.Need-put-step-requires
 put-step-requires c κs =
     let a = c .before .before .before .before .before .before .before .args in
     let g = step-good (a .p) (length (a .key .now)) (a .i) (length (a .a .now)) (length (a .b .now)) (sym (c .before .before .before .step-number .ensures) ∙ c .before .before .if1 .taken) in
     (g .range, (g .index, g .key, g .first, g .second))
-
-same-length : tie.Need-same-length
-same-length c = search needs
-
-same-length-2 : tie.Need-same-length-2
-same-length-2 c = search needs
 
 returns : tie.Need-returns
 returns c =
@@ -49,10 +40,4 @@ returns-2 c =
 pub blind-rotate-step-spec : {M : Type 1} → statement M
 blind-rotate-step-spec =
     tie.close
-    (tie.spec
-    step-number-requires
-    put-step-requires
-    same-length
-    same-length-2
-    returns
-    returns-2)
+    (tie.spec (λ c κs. tt) put-step-requires (λ c. search needs) (λ c. search needs) returns returns-2)

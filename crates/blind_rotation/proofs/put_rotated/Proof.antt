@@ -32,24 +32,11 @@ rotate-test-requires c κs =
     let w = scratch (length (c .before .before .before .before .before .before .before .before .args .a .now)) (room (c .before .before .before .before .before .before .before .before)) ∙ r .1 .2 in
     (r .0, (r .1 .0, r .1 .1, w, w, r .1 .2, r .1 .3))
 
-same-length : tie.Need-same-length
-same-length c = search needs
-
-same-length-2 : tie.Need-same-length-2
-same-length-2 c = search needs
-
 returns : tie.Need-returns
 returns c = c .before .before .before .before .before .before .rotate-test .ensures
 
 pub put-rotated-spec : {M : Type 1} → statement M
 put-rotated-spec =
     tie.close
-    (tie.spec
-    array-borrow-prefix-ta
-    slice-aggregate-rotate-test
-    array-borrow-prefix-tb
-    slice-aggregate-rotate-test-2
-    rotate-test-requires
-    same-length
-    same-length-2
-    returns)
+    (tie.spec array-borrow-prefix-ta slice-aggregate-rotate-test array-borrow-prefix-tb slice-aggregate-rotate-test-2 rotate-test-requires (λ c. search needs)
+    (λ c. search needs) returns)

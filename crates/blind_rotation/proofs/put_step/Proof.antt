@@ -32,24 +32,11 @@ step-at-requires c κs =
     let w = scratch (length (c .before .before .before .before .before .before .before .args .a .now)) (room (c .before .before .before .before .before .before .before)) ∙ r .1 .2 in
     (r .0, (r .1 .0, r .1 .1, w, w, r .1 .2, r .1 .3))
 
-same-length : tie.Need-same-length
-same-length c = search needs
-
-same-length-2 : tie.Need-same-length-2
-same-length-2 c = search needs
-
 returns : tie.Need-returns
 returns c = c .before .before .before .before .before .before .step-at .ensures
 
 pub put-step-spec : {M : Type 1} → statement M
 put-step-spec =
     tie.close
-    (tie.spec
-    array-borrow-prefix-ta
-    slice-aggregate-step-at
-    array-borrow-prefix-tb
-    slice-aggregate-step-at-2
-    step-at-requires
-    same-length
-    same-length-2
-    returns)
+    (tie.spec array-borrow-prefix-ta slice-aggregate-step-at array-borrow-prefix-tb slice-aggregate-step-at-2 step-at-requires (λ c. search needs)
+    (λ c. search needs) returns)

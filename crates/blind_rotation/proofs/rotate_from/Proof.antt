@@ -16,38 +16,14 @@ use borrow.Author.Needs.{needs}
 use Rattle.blind_rotation.proofs.rotate_from.Statement.{statement}
 use Rattle.blind_rotation.proofs.rotate_from.Tie as tie
 
-cast-last : tie.Need-cast-last
-cast-last c = omega arith
-
 mul-t11 : tie.Need-mul-t11
 mul-t11 c = omega (arith, c .before .before .before .before .before .before .before .pre .1 .0)
 
 shared-slice-read-t13 : tie.Need-shared-slice-read-t13
 shared-slice-read-t13 c = omega (arith, c .before .before .before .before .before .before .before .before .pre .1 .0)
 
-body-amount-requires : tie.Need-body-amount-requires
-body-amount-requires c κs = tt
-
-poly-mul-with-x-k-requires : tie.Need-poly-mul-with-x-k-requires
-poly-mul-with-x-k-requires c κs = tt
-
-poly-mul-with-x-k-requires-2 : tie.Need-poly-mul-with-x-k-requires-2
-poly-mul-with-x-k-requires-2 c κs = tt
-
 all-steps-requires : tie.Need-all-steps-requires
 all-steps-requires c κs = let r = c .before .before .before .before .before .before .before .before .before .before .before .before .before .before .before .before .before .before .before .before .before .before .before .before .pre in (r .0, (r .1 .0, r .1 .1, r .1 .2, r .1 .3, c .before .before .before .before .before .before .before .before .before .before .before .poly-mul-with-x-k .kept .1 .1 .1 .0 ∙ r .1 .4, c .before .before .before .before .before .before .poly-mul-with-x-k2 .kept .1 .1 .1 .0 ∙ r .1 .5))
-
-same-length : tie.Need-same-length
-same-length c = search needs
-
-same-length-2 : tie.Need-same-length-2
-same-length-2 c = search needs
-
-same-length-3 : tie.Need-same-length-3
-same-length-3 c = search needs
-
-same-length-4 : tie.Need-same-length-4
-same-length-4 c = search needs
 
 returns : tie.Need-returns
 unfolding blindRotated
@@ -69,16 +45,5 @@ returns c =
 pub rotate-from-spec : {M : Type 1} → statement M
 rotate-from-spec =
     tie.close
-    (tie.spec
-    cast-last
-    mul-t11
-    shared-slice-read-t13
-    body-amount-requires
-    poly-mul-with-x-k-requires
-    poly-mul-with-x-k-requires-2
-    all-steps-requires
-    same-length
-    same-length-2
-    same-length-3
-    same-length-4
-    returns)
+    (tie.spec (λ c. omega arith) mul-t11 shared-slice-read-t13 (λ c κs. tt) (λ c κs. tt) (λ c κs. tt) all-steps-requires (λ c. search needs) (λ c. search needs)
+    (λ c. search needs) (λ c. search needs) returns)

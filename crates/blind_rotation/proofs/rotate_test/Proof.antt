@@ -8,23 +8,8 @@ use borrow.Author.Needs.{needs}
 use Rattle.blind_rotation.proofs.rotate_test.Statement.{statement}
 use Rattle.blind_rotation.proofs.rotate_test.Tie as tie
 
-gen-testvec-requires : tie.Need-gen-testvec-requires
-gen-testvec-requires c κs = tt
-
 rotate-from-requires : tie.Need-rotate-from-requires
 rotate-from-requires c κs = let r = c .before .before .before .before .before .before .before .before .before .before .before .before .before .before .before .before .before .pre in (r .0, (r .1 .0, r .1 .1, c .before .before .before .before .before .before .before .before .gen-testvec .kept .1 .0 ∙ r .1 .2, c .before .before .before .before .before .before .before .before .gen-testvec .kept .1 .1 .0 ∙ r .1 .3, r .1 .4, r .1 .5))
-
-same-length : tie.Need-same-length
-same-length c = search needs
-
-same-length-2 : tie.Need-same-length-2
-same-length-2 c = search needs
-
-same-length-3 : tie.Need-same-length-3
-same-length-3 c = search needs
-
-same-length-4 : tie.Need-same-length-4
-same-length-4 c = search needs
 
 returns : tie.Need-returns
 returns c =
@@ -38,11 +23,4 @@ returns c =
 pub rotate-test-spec : {M : Type 1} → statement M
 rotate-test-spec =
     tie.close
-    (tie.spec
-    gen-testvec-requires
-    rotate-from-requires
-    same-length
-    same-length-2
-    same-length-3
-    same-length-4
-    returns)
+    (tie.spec (λ c κs. tt) rotate-from-requires (λ c. search needs) (λ c. search needs) (λ c. search needs) (λ c. search needs) returns)

@@ -14,12 +14,6 @@ use borrow.Author.Needs.{needs}
 use Rattle.blind_rotation.proofs.step_at.Statement.{statement}
 use Rattle.blind_rotation.proofs.step_at.Tie as tie
 
-mask-amount-requires : tie.Need-mask-amount-requires
-mask-amount-requires c κs = tt
-
-bit-rows-requires : tie.Need-bit-rows-requires
-bit-rows-requires c κs = tt
-
 -- the rows that the step uses
 rows : (c : tie.After-bit-rows) → let g = c .before .before .before .before .before .before .before .before .args in c .bit-rows .result .now ≡ bitRows (g .p) (g .key .now) (g .i)
 rows c =
@@ -42,18 +36,6 @@ step-by-requires c κs =
       ),
     )
 
-same-length : tie.Need-same-length
-same-length c = search needs
-
-same-length-2 : tie.Need-same-length-2
-same-length-2 c = search needs
-
-same-length-3 : tie.Need-same-length-3
-same-length-3 c = search needs
-
-same-length-4 : tie.Need-same-length-4
-same-length-4 c = search needs
-
 returns : tie.Need-returns
 returns c =
     let s = c .before .before .before .before .before .before .before .before .before .before .before .before .before .before .before .before .before .before .before .before .before in
@@ -65,12 +47,4 @@ returns c =
 pub step-at-spec : {M : Type 1} → statement M
 step-at-spec =
     tie.close
-    (tie.spec
-    mask-amount-requires
-    bit-rows-requires
-    step-by-requires
-    same-length
-    same-length-2
-    same-length-3
-    same-length-4
-    returns)
+    (tie.spec (λ c κs. tt) (λ c κs. tt) step-by-requires (λ c. search needs) (λ c. search needs) (λ c. search needs) (λ c. search needs) returns)

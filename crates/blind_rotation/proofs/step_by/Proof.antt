@@ -7,32 +7,11 @@ use borrow.Author.Needs.{needs}
 use Rattle.blind_rotation.proofs.step_by.Statement.{statement}
 use Rattle.blind_rotation.proofs.step_by.Tie as tie
 
-poly-mul-with-x-k-requires : tie.Need-poly-mul-with-x-k-requires
-poly-mul-with-x-k-requires c κs = tt
-
-poly-mul-with-x-k-requires-2 : tie.Need-poly-mul-with-x-k-requires-2
-poly-mul-with-x-k-requires-2 c κs = tt
-
 subtract-requires : tie.Need-subtract-requires
 subtract-requires c κs = let r = c .before .before .before .before .before .before .before .before .before .before .before .before .before .before .before .before .before .pre .1 in r .4 ∙ sym (c .before .before .before .before .before .before .before .before .before .poly-mul-with-x-k .kept .1 .1 .1 .0 ∙ r .2)
 
 subtract-requires-2 : tie.Need-subtract-requires-2
 subtract-requires-2 c κs = let r = c .before .before .before .before .before .before .before .before .before .before .before .before .before .before .before .before .before .before .before .before .before .before .pre .1 in r .5 ∙ sym (c .before .before .before .before .before .before .before .before .before .poly-mul-with-x-k2 .kept .1 .1 .1 .0 ∙ r .3)
-
-external-product-add-requires : tie.Need-external-product-add-requires
-external-product-add-requires c κs = tt
-
-same-length : tie.Need-same-length
-same-length c = search needs
-
-same-length-2 : tie.Need-same-length-2
-same-length-2 c = search needs
-
-same-length-3 : tie.Need-same-length-3
-same-length-3 c = search needs
-
-same-length-4 : tie.Need-same-length-4
-same-length-4 c = search needs
 
 returns : tie.Need-returns
 returns c =
@@ -48,14 +27,5 @@ returns c =
 pub step-by-spec : {M : Type 1} → statement M
 step-by-spec =
     tie.close
-    (tie.spec
-    poly-mul-with-x-k-requires
-    poly-mul-with-x-k-requires-2
-    subtract-requires
-    subtract-requires-2
-    external-product-add-requires
-    same-length
-    same-length-2
-    same-length-3
-    same-length-4
-    returns)
+    (tie.spec (λ c κs. tt) (λ c κs. tt) subtract-requires subtract-requires-2 (λ c κs. tt) (λ c. search needs) (λ c. search needs) (λ c. search needs)
+    (λ c. search needs) returns)

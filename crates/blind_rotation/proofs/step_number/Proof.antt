@@ -13,9 +13,6 @@ use Rattle.blind_rotation.specs.Refusals.{stepNumber}
 use Rattle.blind_rotation.proofs.step_number.Statement.{statement}
 use Rattle.blind_rotation.proofs.step_number.Tie as tie
 
-sizes-of-requires : tie.Need-sizes-of-requires
-sizes-of-requires c κs = search needs
-
 returns : tie.Need-returns
 unfolding stepNumber
 returns c =
@@ -84,4 +81,5 @@ returns-6 c =
 
 pub step-number-spec : {M : Type 1} → statement M
 step-number-spec =
-    tie.close (tie.spec sizes-of-requires returns returns-2 returns-3 returns-4 returns-5 returns-6)
+    tie.close
+    (tie.spec (λ c κs. search needs) returns returns-2 returns-3 returns-4 returns-5 returns-6)

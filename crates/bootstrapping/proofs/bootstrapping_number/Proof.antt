@@ -15,9 +15,6 @@ use borrow.Author.Needs.{needs}
 use Rattle.bootstrapping.proofs.bootstrapping_number.Statement.{statement}
 use Rattle.bootstrapping.proofs.bootstrapping_number.Tie as tie
 
-sizes-of-requires : tie.Need-sizes-of-requires
-sizes-of-requires c κs = search needs
-
 returns : tie.Need-returns
 unfolding bootstrappingNumber
 returns c =
@@ -69,9 +66,6 @@ returns-6 c =
     simp
     (eq-eqb (paramsNumber (g .p)) 0 (sized (g .p) e z), eq-eqb (length (g .key-lv0 .now)) (g .p .n) (c .before .before .before .before .before .before .before .before .if2 .left ∙ n-of (g .p) e z), eq-eqb (length (g .key-lv1 .now)) (size (g .p)) (c .before .before .before .before .before .before .if3 .left ∙ size-of (g .p) e z), eq-eqb (g .masks) (g .p .n * bitDraws (g .p)) (c .before .before .before .before .if4 .left ∙ all-draws-of (g .p) e z), eq-eqb (g .noise) (g .p .n * bitDraws (g .p)) (c .before .before .if5 .left ∙ all-draws-of (g .p) e z), ne-eqb (g .out) (bootstrappingWords (g .p)) (λ q. c .if6 .taken (q ∙ sym (all-of (g .p) e z))))
 
-key-number-requires : tie.Need-key-number-requires
-key-number-requires c κs = search needs
-
 returns-7 : tie.Need-returns-7
 unfolding bootstrappingNumber
 returns-7 c =
@@ -80,9 +74,6 @@ returns-7 c =
     let z = c .before .before .before .before .before .before .before .before .before .before .before .before .if1 .left in
     simp
     (eq-eqb (paramsNumber (g .p)) 0 (sized (g .p) e z), eq-eqb (length (g .key-lv0 .now)) (g .p .n) (c .before .before .before .before .before .before .before .before .before .before .if2 .left ∙ n-of (g .p) e z), eq-eqb (length (g .key-lv1 .now)) (size (g .p)) (c .before .before .before .before .before .before .before .before .if3 .left ∙ size-of (g .p) e z), eq-eqb (g .masks) (g .p .n * bitDraws (g .p)) (c .before .before .before .before .before .before .if4 .left ∙ all-draws-of (g .p) e z), eq-eqb (g .noise) (g .p .n * bitDraws (g .p)) (c .before .before .before .before .if5 .left ∙ all-draws-of (g .p) e z), eq-eqb (g .out) (bootstrappingWords (g .p)) (c .before .before .if6 .left ∙ all-of (g .p) e z), key-bad (g .key-lv0 .now) (λ q. c .if7 .taken (c .before .key-number .ensures ∙ q)))
-
-key-number-requires-2 : tie.Need-key-number-requires-2
-key-number-requires-2 c κs = search needs
 
 returns-8 : tie.Need-returns-8
 unfolding bootstrappingNumber
@@ -105,16 +96,5 @@ returns-9 c =
 pub bootstrapping-number-spec : {M : Type 1} → statement M
 bootstrapping-number-spec =
     tie.close
-    (tie.spec
-    sizes-of-requires
-    returns
-    returns-2
-    returns-3
-    returns-4
-    returns-5
-    returns-6
-    key-number-requires
-    returns-7
-    key-number-requires-2
-    returns-8
+    (tie.spec (λ c κs. search needs) returns returns-2 returns-3 returns-4 returns-5 returns-6 (λ c κs. search needs) returns-7 (λ c κs. search needs) returns-8
     returns-9)

@@ -9,9 +9,6 @@ use Rattle.bootstrapping.proofs.Checks.{torus-good}
 use Rattle.bootstrapping.proofs.encrypt_torus.Statement.{statement}
 use Rattle.bootstrapping.proofs.encrypt_torus.Tie as tie
 
-torus-number-requires : tie.Need-torus-number-requires
-torus-number-requires c κs = search needs
-
 returns : tie.Need-returns
 returns c =
     let e = c .before .torus-number .ensures in
@@ -23,9 +20,6 @@ rows-into-requires c κs =
     let d = torus-good (g .p) (length (g .masks .now)) (length (g .noise .now)) (g .key-lv1 .now) (length (g .out .now)) (sym (c .before .before .torus-number .ensures) ∙ c .before .if1 .left) in
     (d .range, d .masks-length, d .noise-length, d .z-length, d .rows)
 
-same-length : tie.Need-same-length
-same-length c = search needs
-
 returns-2 : tie.Need-returns-2
 returns-2 c =
     let z = sym (c .before .before .before .before .before .torus-number .ensures) ∙ c .before .before .before .before .if1 .left in
@@ -33,4 +27,5 @@ returns-2 c =
 
 pub encrypt-torus-spec : {M : Type 1} → statement M
 encrypt-torus-spec =
-    tie.close (tie.spec torus-number-requires returns rows-into-requires same-length returns-2)
+    tie.close
+    (tie.spec (λ c κs. search needs) returns rows-into-requires (λ c. search needs) returns-2)

@@ -9,9 +9,6 @@ use Rattle.bootstrapping.proofs.Checks.{bootstrapping-good}
 use Rattle.bootstrapping.proofs.gen_bootstrapping_key.Statement.{statement}
 use Rattle.bootstrapping.proofs.gen_bootstrapping_key.Tie as tie
 
-bootstrapping-number-requires : tie.Need-bootstrapping-number-requires
-bootstrapping-number-requires c κs = search needs
-
 returns : tie.Need-returns
 returns c =
     let e = c .before .bootstrapping-number .ensures in
@@ -23,9 +20,6 @@ bits-into-requires c κs =
     let d = bootstrapping-good (g .p) (g .key-lv0 .now) (g .key-lv1 .now) (length (g .masks .now)) (length (g .noise .now)) (length (g .out .now)) (sym (c .before .before .bootstrapping-number .ensures) ∙ c .before .if1 .left) in
     (d .range, d .key-length, d .z-length, d .masks-length, d .noise-length, d .rows)
 
-same-length : tie.Need-same-length
-same-length c = search needs
-
 returns-2 : tie.Need-returns-2
 returns-2 c =
     let z = sym (c .before .before .before .before .before .bootstrapping-number .ensures) ∙ c .before .before .before .before .if1 .left in
@@ -33,4 +27,5 @@ returns-2 c =
 
 pub gen-bootstrapping-key-spec : {M : Type 1} → statement M
 gen-bootstrapping-key-spec =
-    tie.close (tie.spec bootstrapping-number-requires returns bits-into-requires same-length returns-2)
+    tie.close
+    (tie.spec (λ c κs. search needs) returns bits-into-requires (λ c. search needs) returns-2)

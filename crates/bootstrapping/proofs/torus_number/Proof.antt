@@ -15,9 +15,6 @@ use Rattle.bootstrapping.proofs.Checks.{draws-of, bit-of}
 use Rattle.bootstrapping.proofs.torus_number.Statement.{statement}
 use Rattle.bootstrapping.proofs.torus_number.Tie as tie
 
-sizes-of-requires : tie.Need-sizes-of-requires
-sizes-of-requires c κs = search needs
-
 returns : tie.Need-returns
 unfolding torusNumber
 returns c =
@@ -60,9 +57,6 @@ returns-5 c =
     simp
     (eq-eqb (paramsNumber (g .p)) 0 (sized (g .p) e z), eq-eqb (g .masks) (bitDraws (g .p)) (c .before .before .before .before .before .before .if2 .left ∙ draws-of (g .p) e z), eq-eqb (g .noise) (bitDraws (g .p)) (c .before .before .before .before .if3 .left ∙ draws-of (g .p) e z), eq-eqb (length (g .key .now)) (size (g .p)) (c .before .before .if4 .left ∙ size-of (g .p) e z), ne-eqb (g .out) (bitWords (g .p)) (λ q. c .if5 .taken (q ∙ sym (bit-of (g .p) e z))))
 
-key-number-requires : tie.Need-key-number-requires
-key-number-requires c κs = search needs
-
 returns-6 : tie.Need-returns-6
 unfolding torusNumber
 returns-6 c =
@@ -84,13 +78,4 @@ returns-7 c =
 pub torus-number-spec : {M : Type 1} → statement M
 torus-number-spec =
     tie.close
-    (tie.spec
-    sizes-of-requires
-    returns
-    returns-2
-    returns-3
-    returns-4
-    returns-5
-    key-number-requires
-    returns-6
-    returns-7)
+    (tie.spec (λ c κs. search needs) returns returns-2 returns-3 returns-4 returns-5 (λ c κs. search needs) returns-6 returns-7)

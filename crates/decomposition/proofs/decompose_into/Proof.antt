@@ -41,12 +41,6 @@ add-end c = omega (arith, room c)
 mul-pair-digits-into : tie.Need-mul-pair-digits-into Inv-loop μ-loop
 mul-pair-digits-into c = omega (arith, room c)
 
-sub-pair-digits-into : tie.Need-sub-pair-digits-into Inv-loop μ-loop
-sub-pair-digits-into c = omega arith
-
-part-pair-digits-into-start : tie.Need-part-pair-digits-into-start Inv-loop μ-loop
-part-pair-digits-into-start c = omega arith
-
 part-pair-digits-into-end : tie.Need-part-pair-digits-into-end Inv-loop μ-loop
 part-pair-digits-into-end c = room c
 
@@ -69,9 +63,6 @@ loop-again c =
     let e = flat-more (g .p) x (g .out .now) (l .r) (l .at) n (l .inv .1) (r .1 .1) (l .inv .3) (c .before .before .pair-digits-into .ensures) in
     (omega (arith, c .before .before .before .before .loop-test .taken), omega (arith, l .inv, r), ap length e ∙ length-filled (flat (g .p) x) (g .out .now) (l .at + n) (omega (arith, room (c .before .before .before .before), l .inv)), e)
 
-same-length : tie.Need-same-length Inv-loop μ-loop
-same-length c = omega arith
-
 returns : tie.Need-returns Inv-loop μ-loop
 unfolding decomposed
 returns c =
@@ -85,19 +76,5 @@ returns c =
 pub decompose-into-spec : {M : Type 1} → statement M
 decompose-into-spec =
     tie.close
-    (tie.spec
-    Inv-loop
-    μ-loop
-    add-rows
-    loop-holds
-    add-end
-    mul-pair-digits-into
-    sub-pair-digits-into
-    part-pair-digits-into-start
-    part-pair-digits-into-end
-    pair-digits-into-requires
-    add-r
-    loop-less
-    loop-again
-    same-length
-    returns)
+    (tie.spec Inv-loop μ-loop add-rows loop-holds add-end mul-pair-digits-into (λ c. omega arith) (λ c. omega arith) part-pair-digits-into-end
+    pair-digits-into-requires add-r loop-less loop-again (λ c. omega arith) returns)

@@ -11,21 +11,12 @@ use borrow.Author.Needs.{needs}
 use Rattle.decomposition.proofs.decomposition.Statement.{statement}
 use Rattle.decomposition.proofs.decomposition.Tie as tie
 
-decomposition-number-requires : tie.Need-decomposition-number-requires
-decomposition-number-requires c κs = search needs
-
-decomposition-offset-requires : tie.Need-decomposition-offset-requires
-decomposition-offset-requires c κs = search needs
-
 decompose-into-requires : tie.Need-decompose-into-requires
 decompose-into-requires c κs =
     let a = c .before .before .before .before .before .before .before .before .args in
     let g = decomposition-good (a .p) (length (a .a .now)) (length (a .b .now)) (length (a .out .now)) (sym (c .before .before .before .before .decomposition-number .ensures) ∙ c .before .before .before .if1 .taken) in
     let o = offset-value (a .p) (g .range) (c .before .before .decomposition-offset .ensures) in
     (in-range _ (g .range), (o, omega (arith, g), omega (arith, g), g .into))
-
-same-length : tie.Need-same-length
-same-length c = search needs
 
 returns : tie.Need-returns
 returns c = let e = c .before .before .before .before .before .before .before .decomposition-number .ensures in (ap answer e, done _ _ _ (sym e ∙ c .before .before .before .before .before .before .if1 .taken) (c .before .before .decompose-into .ensures))
@@ -36,10 +27,4 @@ returns-2 c = let e = c .before .decomposition-number .ensures in (ap answer e, 
 pub decomposition-spec : {M : Type 1} → statement M
 decomposition-spec =
     tie.close
-    (tie.spec
-    decomposition-number-requires
-    decomposition-offset-requires
-    decompose-into-requires
-    same-length
-    returns
-    returns-2)
+    (tie.spec (λ c κs. search needs) (λ c κs. search needs) decompose-into-requires (λ c. search needs) returns returns-2)

@@ -12,9 +12,6 @@ use Rattle.decomposition.specs.Pair.{decompositionNumber}
 use Rattle.decomposition.proofs.decomposition_number.Statement.{statement}
 use Rattle.decomposition.proofs.decomposition_number.Tie as tie
 
-sizes-of-requires : tie.Need-sizes-of-requires
-sizes-of-requires c κs = search needs
-
 returns : tie.Need-returns
 unfolding decompositionNumber
 returns c =
@@ -63,4 +60,5 @@ returns-5 c =
 
 pub decomposition-number-spec : {M : Type 1} → statement M
 decomposition-number-spec =
-    tie.close (tie.spec sizes-of-requires returns returns-2 returns-3 returns-4 returns-5)
+    tie.close
+    (tie.spec (λ c κs. search needs) returns returns-2 returns-3 returns-4 returns-5)

@@ -11,21 +11,12 @@ use borrow.Author.Needs.{needs}
 use Rattle.decomposition.proofs.digit_polynomial.Statement.{statement}
 use Rattle.decomposition.proofs.digit_polynomial.Tie as tie
 
-polynomial-number-requires : tie.Need-polynomial-number-requires
-polynomial-number-requires c κs = search needs
-
-decomposition-offset-requires : tie.Need-decomposition-offset-requires
-decomposition-offset-requires c κs = search needs
-
 pair-digits-into-requires : tie.Need-pair-digits-into-requires
 pair-digits-into-requires c κs =
     let a = c .before .before .before .before .before .before .before .before .args in
     let g = polynomial-good (a .p) (length (a .a .now)) (length (a .b .now)) (a .r) (length (a .out .now)) (sym (c .before .before .before .before .polynomial-number .ensures) ∙ c .before .before .before .if1 .taken) in
     let o = offset-value (a .p) (g .range) (c .before .before .decomposition-offset .ensures) in
     (in-range _ (g .range), (g .row, o, omega (arith, g), omega (arith, g), g .into))
-
-same-length : tie.Need-same-length
-same-length c = search needs
 
 returns : tie.Need-returns
 returns c = let e = c .before .before .before .before .before .before .before .polynomial-number .ensures in (ap answer e, done _ _ _ (sym e ∙ c .before .before .before .before .before .before .if1 .taken) (c .before .before .pair-digits-into .ensures))
@@ -36,10 +27,4 @@ returns-2 c = let e = c .before .polynomial-number .ensures in (ap answer e, kep
 pub digit-polynomial-spec : {M : Type 1} → statement M
 digit-polynomial-spec =
     tie.close
-    (tie.spec
-    polynomial-number-requires
-    decomposition-offset-requires
-    pair-digits-into-requires
-    same-length
-    returns
-    returns-2)
+    (tie.spec (λ c κs. search needs) (λ c κs. search needs) pair-digits-into-requires (λ c. search needs) returns returns-2)

@@ -22,35 +22,14 @@ abbrev μ-loop : tie.MeasureT-loop
 loop-holds : tie.Need-loop-holds Inv-loop μ-loop
 loop-holds c = (omega arith, refl, tab-none _ _)
 
-mul-digit-word : tie.Need-mul-digit-word Inv-loop μ-loop
-mul-digit-word c = omega arith
-
-shared-slice-read-digit-word : tie.Need-shared-slice-read-digit-word Inv-loop μ-loop
-shared-slice-read-digit-word c = omega arith
-
 digit-word-requires : tie.Need-digit-word-requires Inv-loop μ-loop
 digit-word-requires c κs = let r = c .before .before .before .before .before .pre in (r .0, (r .1 .0, r .1 .1))
-
-mul-out : tie.Need-mul-out Inv-loop μ-loop
-mul-out c = omega arith
-
-slice-write-out : tie.Need-slice-write-out Inv-loop μ-loop
-slice-write-out c = omega arith
-
-add-x : tie.Need-add-x Inv-loop μ-loop
-add-x c = omega arith
-
-loop-less : tie.Need-loop-less Inv-loop μ-loop
-loop-less c = omega arith
 
 loop-again : tie.Need-loop-again Inv-loop μ-loop
 loop-again c =
     let l = c .before .before .before .loop in
     let g = c .before .before .before .before .before .before .args in
     (omega arith, simp length-set (l .inv .1), tab-more _ (g .out .now) (l .x) (omega arith) (l .inv .2) (c .digit-word .ensures))
-
-same-length : tie.Need-same-length Inv-loop μ-loop
-same-length c = omega arith
 
 returns : tie.Need-returns Inv-loop μ-loop
 unfolding digitPoly
@@ -62,17 +41,5 @@ returns c =
 pub digits-into-spec : {M : Type 1} → statement M
 digits-into-spec =
     tie.close
-    (tie.spec
-    Inv-loop
-    μ-loop
-    loop-holds
-    mul-digit-word
-    shared-slice-read-digit-word
-    digit-word-requires
-    mul-out
-    slice-write-out
-    add-x
-    loop-less
-    loop-again
-    same-length
-    returns)
+    (tie.spec Inv-loop μ-loop loop-holds (λ c. omega arith) (λ c. omega arith) digit-word-requires (λ c. omega arith) (λ c. omega arith) (λ c. omega arith)
+    (λ c. omega arith) loop-again (λ c. omega arith) returns)

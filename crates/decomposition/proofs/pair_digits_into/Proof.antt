@@ -11,17 +11,11 @@ use Rattle.decomposition.proofs.pair_digits_into.Tie as tie
 digits-into-requires : tie.Need-digits-into-requires
 digits-into-requires c κs = let r = c .before .before .before .before .before .pre in (r .0, (c .before .if1 .taken, r .1 .1, omega arith, omega arith))
 
-same-length : tie.Need-same-length
-same-length c = search needs
-
 returns : tie.Need-returns
 returns c = let g = c .before .before .before .before .before .before .before .before .args in c .before .before .digits-into .ensures ∙ pair-low (g .p) (record { a = g .a .now; b = g .b .now }) (g .r) (c .before .before .before .before .if1 .taken)
 
 digits-into-requires-2 : tie.Need-digits-into-requires-2
 digits-into-requires-2 c κs = let r = c .before .before .before .before .before .pre in (r .0, (omega arith, r .1 .1, omega arith, omega arith))
-
-same-length-2 : tie.Need-same-length-2
-same-length-2 c = search needs
 
 returns-2 : tie.Need-returns-2
 returns-2 c = let g = c .before .before .before .before .before .before .before .before .args in c .before .before .digits-into2 .ensures ∙ pair-high (g .p) (record { a = g .a .now; b = g .b .now }) (g .r) (c .before .before .before .before .if1 .left)
@@ -29,10 +23,4 @@ returns-2 c = let g = c .before .before .before .before .before .before .before 
 pub pair-digits-into-spec : {M : Type 1} → statement M
 pair-digits-into-spec =
     tie.close
-    (tie.spec
-    digits-into-requires
-    same-length
-    returns
-    digits-into-requires-2
-    same-length-2
-    returns-2)
+    (tie.spec digits-into-requires (λ c. search needs) returns digits-into-requires-2 (λ c. search needs) returns-2)

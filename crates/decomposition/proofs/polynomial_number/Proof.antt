@@ -14,9 +14,6 @@ use Rattle.decomposition.specs.Pair.{polynomialNumber}
 use Rattle.decomposition.proofs.polynomial_number.Statement.{statement}
 use Rattle.decomposition.proofs.polynomial_number.Tie as tie
 
-sizes-of-requires : tie.Need-sizes-of-requires
-sizes-of-requires c κs = search needs
-
 returns : tie.Need-returns
 unfolding polynomialNumber
 returns c =
@@ -73,4 +70,5 @@ returns-6 c =
 
 pub polynomial-number-spec : {M : Type 1} → statement M
 polynomial-number-spec =
-    tie.close (tie.spec sizes-of-requires returns returns-2 returns-3 returns-4 add-if5 returns-5 returns-6)
+    tie.close
+    (tie.spec (λ c κs. search needs) returns returns-2 returns-3 returns-4 add-if5 returns-5 returns-6)

@@ -5,11 +5,9 @@ use Rattle.ring.proofs.Words.{one-shl}
 use Rattle.decomposition.proofs.pow2.Statement.{statement}
 use Rattle.decomposition.proofs.pow2.Tie as tie
 
-shl-result : tie.Need-shl-result
-shl-result c = search needs
-
 returns : tie.Need-returns
 returns c = one-shl (c .args .s) (search needs)
 
 pub pow2-spec : {M : Type 1} → statement M
-pow2-spec = tie.close (tie.spec shl-result returns)
+pow2-spec = tie.close
+    (tie.spec (λ c. search needs) returns)

@@ -17,9 +17,6 @@ use borrow.Author.Needs.{needs}
 use Rattle.drift_run.proofs.drift_gate.Statement.{statement}
 use Rattle.drift_run.proofs.drift_gate.Tie as tie
 
-gate-answer-requires : tie.Need-gate-answer-requires
-gate-answer-requires c κs = search needs
-
 returns : tie.Need-returns
 unfolding gateInside gateWorst gateWiresAfter gateDriftsAfter
 returns c =
@@ -64,10 +61,4 @@ returns-2 c =
 pub drift-gate-spec : {M : Type 1} → statement M
 drift-gate-spec =
     tie.close
-    (tie.spec
-    gate-answer-requires
-    returns
-    one-or-none-requires
-    same-length
-    same-length-2
-    returns-2)
+    (tie.spec (λ c κs. search needs) returns one-or-none-requires same-length same-length-2 returns-2)

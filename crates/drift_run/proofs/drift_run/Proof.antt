@@ -20,9 +20,6 @@ use Rattle.drift_run.proofs.drift_run.Tie as tie
 never : false ≡ true → ⊥
 never h = let z : _≡_ {A = ℕ} 0 1 = cc in let q : ⊥ = omega arith in q
 
-run-answer-requires : tie.Need-run-answer-requires
-run-answer-requires c κs = search needs
-
 returns : tie.Need-returns
 unfolding insideAfter wiresAfter outputsAfter driftsAfter
 returns c =
@@ -72,11 +69,4 @@ returns-2 c =
 pub drift-run-spec : {M : Type 1} → statement M
 drift-run-spec =
     tie.close
-    (tie.spec
-    run-answer-requires
-    returns
-    run-into-requires
-    same-length
-    same-length-2
-    same-length-3
-    returns-2)
+    (tie.spec (λ c κs. search needs) returns run-into-requires same-length same-length-2 same-length-3 returns-2)

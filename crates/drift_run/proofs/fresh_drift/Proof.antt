@@ -19,20 +19,11 @@ use Rattle.drift_run.proofs.fresh_drift.Tie as tie
 passed : (c : tie.Else1) → let a = c .before .before .before .before .before .before .args in keyedNumber (a .p) Zero (length (a .c .now)) (a .key .now) 0 ≡ 0
 passed c = sym (ap (λ (s : Answer). s .number) (c .before .before .before .phase-of .ensures .0)) ∙ c .if1 .left
 
-phase-of-requires : tie.Need-phase-of-requires
-phase-of-requires c κs = search needs
-
 returns : tie.Need-returns
 unfolding freshValue
 returns c =
     let e = c .before .before .before .phase-of .ensures .0 in
     (e, kept _ _ _ (λ z. c .if1 .taken (ap (λ (s : Answer). s .number) e ∙ z)))
-
-bit-word-requires : tie.Need-bit-word-requires
-bit-word-requires c κs = search needs
-
-sub-requires : tie.Need-sub-requires
-sub-requires c κs = search needs
 
 returns-2 : tie.Need-returns-2
 unfolding freshValue freshWord
@@ -45,4 +36,5 @@ returns-2 c =
 
 pub fresh-drift-spec : {M : Type 1} → statement M
 fresh-drift-spec =
-    tie.close (tie.spec phase-of-requires returns bit-word-requires sub-requires returns-2)
+    tie.close
+    (tie.spec (λ c κs. search needs) returns (λ c κs. search needs) (λ c κs. search needs) returns-2)

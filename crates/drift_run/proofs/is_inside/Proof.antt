@@ -6,12 +6,10 @@ use borrow.Author.Needs.{needs}
 use Rattle.drift_run.proofs.is_inside.Statement.{statement}
 use Rattle.drift_run.proofs.is_inside.Tie as tie
 
-word-inside-requires : tie.Need-word-inside-requires
-word-inside-requires c κs = search needs
-
 returns : tie.Need-returns
 unfolding inside insideWord
 returns c = c .word-inside .ensures
 
 pub is-inside-spec : {M : Type 1} → statement M
-is-inside-spec = tie.close (tie.spec word-inside-requires returns)
+is-inside-spec = tie.close
+    (tie.spec (λ c κs. search needs) returns)

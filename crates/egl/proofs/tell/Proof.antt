@@ -15,12 +15,6 @@ use Rattle.egl.proofs.tell.Tie as tie
 slice-aggregate-describe : tie.Need-slice-aggregate-describe
 slice-aggregate-describe c = let a = c .before .before .before .args in sym (length-take-le (a .n) (now (a .input)) (search needs))
 
-describe-requires : tie.Need-describe-requires
-describe-requires c κs = search needs
-
-same-length : tie.Need-same-length
-same-length c = search needs
-
 returns : tie.Need-returns
 returns c =
     let a = c .before .before .before .before .before .before .before .args in
@@ -30,4 +24,5 @@ returns c =
     (omega arith, λ bs e. told-whole (take (a .n) (now (a .input))) (now (a .text)) (search needs) (d .ensures .0) (d .ensures .1) ∙ read-told (now (a .input)) bs (a .n) (search needs) e)
 
 pub tell-spec : {M : Type 1} → statement M
-tell-spec = tie.close (tie.spec slice-aggregate-describe describe-requires same-length returns)
+tell-spec = tie.close
+    (tie.spec slice-aggregate-describe (λ c κs. search needs) (λ c. search needs) returns)

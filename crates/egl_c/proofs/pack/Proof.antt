@@ -7,21 +7,10 @@ use borrow.Author.Needs.{needs}
 use Rattle.egl_c.proofs.pack.Statement.{statement}
 use Rattle.egl_c.proofs.pack.Tie as tie
 
-cast-result : tie.Need-cast-result
-cast-result c = search needs
-
-cast-result-2 : tie.Need-cast-result-2
-cast-result-2 c = search needs
-
-mul-result : tie.Need-mul-result
-mul-result c = search needs
-
-add-result : tie.Need-add-result
-add-result c = search needs
-
 returns : tie.Need-returns
 unfolding packed Q
 returns c = omega arith
 
 pub pack-spec : {M : Type 1} → statement M
-pack-spec = tie.close (tie.spec cast-result cast-result-2 mul-result add-result returns)
+pack-spec = tie.close
+    (tie.spec (λ c. search needs) (λ c. search needs) (λ c. search needs) (λ c. search needs) returns)

@@ -6,17 +6,12 @@ use borrow.Author.Needs.{needs}
 use Rattle.egl_c.proofs.pack_told.Statement.{statement}
 use Rattle.egl_c.proofs.pack_told.Tie as tie
 
-pack-requires : tie.Need-pack-requires
-pack-requires c κs = search needs
-
 returns : tie.Need-returns
 returns c = c .pack .ensures ∙ kept _ _ _ (c .before .if1 .taken)
-
-pack-with-requires : tie.Need-pack-with-requires
-pack-with-requires c κs = search needs
 
 returns-2 : tie.Need-returns-2
 returns-2 c = done _ _ _ (c .before .if1 .left) (c .pack-with .ensures)
 
 pub pack-told-spec : {M : Type 1} → statement M
-pack-told-spec = tie.close (tie.spec pack-requires returns pack-with-requires returns-2)
+pack-told-spec = tie.close
+    (tie.spec (λ c κs. search needs) returns (λ c κs. search needs) returns-2)

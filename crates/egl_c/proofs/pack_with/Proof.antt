@@ -7,18 +7,10 @@ use borrow.Author.Needs.{needs}
 use Rattle.egl_c.proofs.pack_with.Statement.{statement}
 use Rattle.egl_c.proofs.pack_with.Tie as tie
 
-cast-result : tie.Need-cast-result
-cast-result c = search needs
-
-mul-result : tie.Need-mul-result
-mul-result c = search needs
-
-add-result : tie.Need-add-result
-add-result c = search needs
-
 returns : tie.Need-returns
 unfolding packedWith Q
 returns c = omega arith
 
 pub pack-with-spec : {M : Type 1} → statement M
-pack-with-spec = tie.close (tie.spec cast-result mul-result add-result returns)
+pack-with-spec = tie.close
+    (tie.spec (λ c. search needs) (λ c. search needs) (λ c. search needs) returns)

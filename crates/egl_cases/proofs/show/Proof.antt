@@ -15,31 +15,13 @@ use Rattle.egl_cases.proofs.show.Tie as tie
 within : (bs : List ℕ) (room : ℕ) {d : Described} {n : ℕ} → d ≡ describeAnswer bs room → n ≡ room → d .length ≤ n
 within bs room e k = let l = length-told bs room in let f = ap (λ (d : Described). d .length) e in omega arith
 
-slice-aggregate-describe : tie.Need-slice-aggregate-describe
-slice-aggregate-describe c = search needs
-
-describe-requires : tie.Need-describe-requires
-describe-requires c κs = search needs
-
 array-share-prefix-text : tie.Need-array-share-prefix-text
 array-share-prefix-text c = within _ _ (c .before .describe .ensures .0) (c .before .describe .kept .1 .0)
 
 slice-aggregate-write-all : tie.Need-slice-aggregate-write-all
 slice-aggregate-write-all c = sym (length-take-le _ _ (within _ _ (c .before .before .describe .ensures .0) (c .before .before .describe .kept .1 .0)))
 
-write-all-requires : tie.Need-write-all-requires
-write-all-requires c κs = search needs
-
-returns : tie.Need-returns
-returns c = search needs
-
 pub show-spec : {M : Type 1} → statement M
 show-spec =
     tie.close
-    (tie.spec
-    slice-aggregate-describe
-    describe-requires
-    array-share-prefix-text
-    slice-aggregate-write-all
-    write-all-requires
-    returns)
+    (tie.spec (λ c. search needs) (λ c κs. search needs) array-share-prefix-text slice-aggregate-write-all (λ c κs. search needs) (λ c. search needs))

@@ -6,17 +6,9 @@ use borrow.Author.Needs.{needs}
 use Rattle.encrypted_run.proofs.cipher_words.Statement.{statement}
 use Rattle.encrypted_run.proofs.cipher_words.Tie as tie
 
-cast-words : tie.Need-cast-words
-cast-words c = search needs
-
-add-words : tie.Need-add-words
-add-words c = search needs
-
 mul-result : tie.Need-mul-result
 mul-result c = let g = c .before in let w = words-to (g .args .p) (g .args .count) (g .pre .0) (g .pre .1) in omega arith
 
-returns : tie.Need-returns
-returns c = search needs
-
 pub cipher-words-spec : {M : Type 1} → statement M
-cipher-words-spec = tie.close (tie.spec cast-words add-words mul-result returns)
+cipher-words-spec = tie.close
+    (tie.spec (λ c. search needs) (λ c. search needs) mul-result (λ c. search needs))

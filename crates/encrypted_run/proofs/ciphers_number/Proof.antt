@@ -22,9 +22,6 @@ out-words c =
     let d = c .before .before .before .before .before .args in
     c .cipher-words2 .ensures ∙ ap (λ (k : ℕ). k * (d .p .n + 1)) (outputs-are (d .bytes .now) (c .before .before .before .counts .ensures))
 
-counts-requires : tie.Need-counts-requires
-counts-requires c κs = search needs
-
 cipher-words-requires : tie.Need-cipher-words-requires
 cipher-words-requires c κs = let s = c .before .before in let e = inputs-are (s .args .bytes .now) (c .counts .ensures) in let h = s .pre .1 .head .inputs-to in (s .pre .0, omega arith)
 
@@ -39,9 +36,6 @@ returns-2 : tie.Need-returns-2
 unfolding ciphersNumber
 returns-2 c = simp (fits (c .before .before .if1 .left) (in-words (c .before .before .before)), unfit (c .if2 .taken) (out-words (c .before)))
 
-wires-number-requires : tie.Need-wires-number-requires
-wires-number-requires c κs = search needs
-
 returns-3 : tie.Need-returns-3
 unfolding ciphersNumber
 returns-3 c = rw (fits (c .before .before .before .if1 .left) (in-words (c .before .before .before .before)), fits (c .before .if2 .left) (out-words (c .before .before))) (c .wires-number .ensures)
@@ -49,11 +43,4 @@ returns-3 c = rw (fits (c .before .before .before .if1 .left) (in-words (c .befo
 pub ciphers-number-spec : {M : Type 1} → statement M
 ciphers-number-spec =
     tie.close
-    (tie.spec
-    counts-requires
-    cipher-words-requires
-    returns
-    cipher-words-requires-2
-    returns-2
-    wires-number-requires
-    returns-3)
+    (tie.spec (λ c κs. search needs) cipher-words-requires returns cipher-words-requires-2 returns-2 (λ c κs. search needs) returns-3)

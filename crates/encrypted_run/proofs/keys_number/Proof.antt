@@ -13,9 +13,6 @@ use Rattle.encrypted_run.proofs.keys_number.Tie as tie
 lengths : (c : tie.Else1) → c .before .before .sizes-of .result ≡ sizesIn (c .before .before .before .args .p)
 lengths c = lengths-in _ (c .before .before .sizes-of .ensures) (c .if1 .left)
 
-sizes-of-requires : tie.Need-sizes-of-requires
-sizes-of-requires c κs = search needs
-
 returns : tie.Need-returns
 unfolding materialNumber
 returns c = simp (out-params _ (c .before .before .sizes-of .ensures) (c .if1 .taken))
@@ -50,4 +47,5 @@ returns-4 c =
     )
 
 pub keys-number-spec : {M : Type 1} → statement M
-keys-number-spec = tie.close (tie.spec sizes-of-requires returns returns-2 returns-3 returns-4)
+keys-number-spec = tie.close
+    (tie.spec (λ c κs. search needs) returns returns-2 returns-3 returns-4)

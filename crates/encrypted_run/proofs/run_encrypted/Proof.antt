@@ -9,17 +9,8 @@ use borrow.Author.Needs.{needs}
 use Rattle.encrypted_run.proofs.run_encrypted.Statement.{statement}
 use Rattle.encrypted_run.proofs.run_encrypted.Tie as tie
 
-run-answer-requires : tie.Need-run-answer-requires
-run-answer-requires c κs = search needs
-
 run-into-requires : tie.Need-run-into-requires
 run-into-requires c κs = let s = c .before .before .before .before .before .before .before .before .before .before .before in run-good (s .args .p) _ _ (s .args .bytes .now) _ _ _ (sym (ap (λ (a : Answer). a .number) (c .before .before .before .before .run-answer .ensures)) ∙ c .before .before .if1 .taken)
-
-same-length : tie.Need-same-length
-same-length c = search needs
-
-same-length-2 : tie.Need-same-length-2
-same-length-2 c = search needs
 
 returns : tie.Need-returns
 unfolding wiresAfter outputsAfter
@@ -37,4 +28,4 @@ returns-2 c =
 pub run-encrypted-spec : {M : Type 1} → statement M
 run-encrypted-spec =
     tie.close
-    (tie.spec run-answer-requires run-into-requires same-length same-length-2 returns returns-2)
+    (tie.spec (λ c κs. search needs) run-into-requires (λ c. search needs) (λ c. search needs) returns returns-2)

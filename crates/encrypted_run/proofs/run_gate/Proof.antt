@@ -9,14 +9,8 @@ use borrow.Author.Needs.{needs}
 use Rattle.encrypted_run.proofs.run_gate.Statement.{statement}
 use Rattle.encrypted_run.proofs.run_gate.Tie as tie
 
-step-answer-requires : tie.Need-step-answer-requires
-step-answer-requires c κs = search needs
-
 one-or-none-requires : tie.Need-one-or-none-requires
 one-or-none-requires c κs = let s = c .before .before .before .before .before .before .before .before in step-good (s .args .p) _ _ (s .args .bytes .now) _ (sym (ap (λ (a : Answer). a .number) (c .before .before .before .step-answer .ensures)) ∙ c .before .if1 .taken)
-
-same-length : tie.Need-same-length
-same-length c = search needs
 
 returns : tie.Need-returns
 unfolding stepAfter
@@ -32,4 +26,5 @@ returns-2 c =
 
 pub run-gate-spec : {M : Type 1} → statement M
 run-gate-spec =
-    tie.close (tie.spec step-answer-requires one-or-none-requires same-length returns returns-2)
+    tie.close
+    (tie.spec (λ c κs. search needs) one-or-none-requires (λ c. search needs) returns returns-2)

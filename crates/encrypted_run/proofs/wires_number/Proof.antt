@@ -22,9 +22,6 @@ few c = let h = c .before .before .before .pre .1 .head in let e = counted c in 
 long : (c : tie.After-cipher-words) → let d = c .before .before .before .before .args in c .cipher-words .result ≡ wires (d .bytes .now) * (d .p .n + 1)
 long c = c .cipher-words .ensures ∙ ap (λ (k : ℕ). k * (c .before .before .before .before .args .p .n + 1)) (counted (c .before))
 
-counts-requires : tie.Need-counts-requires
-counts-requires c κs = search needs
-
 add-wires : tie.Need-add-wires
 add-wires c = let h = few c in omega arith
 
@@ -41,4 +38,5 @@ returns-2 c = simp (fits (c .if1 .left) (long (c .before)))
 
 pub wires-number-spec : {M : Type 1} → statement M
 wires-number-spec =
-    tie.close (tie.spec counts-requires add-wires cipher-words-requires returns returns-2)
+    tie.close
+    (tie.spec (λ c κs. search needs) add-wires cipher-words-requires returns returns-2)

@@ -8,14 +8,8 @@ use borrow.Author.Needs.{needs}
 use Rattle.gates.proofs.gate.Statement.{statement}
 use Rattle.gates.proofs.gate.Tie as tie
 
-gate-number-requires : tie.Need-gate-number-requires
-gate-number-requires c κs = search needs
-
 put-gate-requires : tie.Need-put-gate-requires
 put-gate-requires c κs = gate-good _ _ _ _ _ _ (sym (c .before .before .gate-number .ensures) ∙ c .before .if1 .taken)
-
-same-length : tie.Need-same-length
-same-length c = search needs
 
 returns : tie.Need-returns
 returns c = let e = c .before .before .before .before .before .gate-number .ensures in (ap answer e, done _ _ _ (sym e ∙ c .before .before .before .before .if1 .taken) (c .before .before .put-gate .ensures))
@@ -25,4 +19,5 @@ returns-2 c = let e = c .before .gate-number .ensures in (ap answer e, kept _ _ 
 
 pub gate-spec : {M : Type 1} → statement M
 gate-spec =
-    tie.close (tie.spec gate-number-requires put-gate-requires same-length returns returns-2)
+    tie.close
+    (tie.spec (λ c κs. search needs) put-gate-requires (λ c. search needs) returns returns-2)

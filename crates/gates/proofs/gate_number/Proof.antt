@@ -14,9 +14,6 @@ use Rattle.gates.proofs.gate_number.Tie as tie
 lengths : (c : tie.Else1) → c .before .before .sizes-of .result ≡ sizesIn (c .before .before .before .args .p)
 lengths c = lengths-in _ (c .before .before .sizes-of .ensures) (c .if1 .left)
 
-sizes-of-requires : tie.Need-sizes-of-requires
-sizes-of-requires c κs = search needs
-
 returns : tie.Need-returns
 unfolding gateNumber
 returns c = simp (out-params _ (c .before .before .sizes-of .ensures) (c .if1 .taken))
@@ -90,4 +87,5 @@ returns-7 c =
     )
 
 pub gate-number-spec : {M : Type 1} → statement M
-gate-number-spec = tie.close (tie.spec sizes-of-requires returns returns-2 returns-3 returns-4 returns-5 returns-6 returns-7)
+gate-number-spec = tie.close
+    (tie.spec (λ c κs. search needs) returns returns-2 returns-3 returns-4 returns-5 returns-6 returns-7)

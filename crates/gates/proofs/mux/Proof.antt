@@ -8,14 +8,8 @@ use borrow.Author.Needs.{needs}
 use Rattle.gates.proofs.mux.Statement.{statement}
 use Rattle.gates.proofs.mux.Tie as tie
 
-mux-number-requires : tie.Need-mux-number-requires
-mux-number-requires c κs = search needs
-
 put-mux-requires : tie.Need-put-mux-requires
 put-mux-requires c κs = mux-good _ _ _ _ _ _ _ (sym (c .before .before .mux-number .ensures) ∙ c .before .if1 .taken)
-
-same-length : tie.Need-same-length
-same-length c = search needs
 
 returns : tie.Need-returns
 returns c = let e = c .before .before .before .before .before .mux-number .ensures in (ap answer e, done _ _ _ (sym e ∙ c .before .before .before .before .if1 .taken) (c .before .before .put-mux .ensures))
@@ -24,4 +18,5 @@ returns-2 : tie.Need-returns-2
 returns-2 c = let e = c .before .mux-number .ensures in (ap answer e, kept _ _ _ (λ z. c .if1 .left (e ∙ z)))
 
 pub mux-spec : {M : Type 1} → statement M
-mux-spec = tie.close (tie.spec mux-number-requires put-mux-requires same-length returns returns-2)
+mux-spec = tie.close
+    (tie.spec (λ c κs. search needs) put-mux-requires (λ c. search needs) returns returns-2)

@@ -14,9 +14,6 @@ use Rattle.gates.proofs.mux_number.Tie as tie
 lengths : (c : tie.Else1) → c .before .before .sizes-of .result ≡ sizesIn (c .before .before .before .args .p)
 lengths c = lengths-in _ (c .before .before .sizes-of .ensures) (c .if1 .left)
 
-sizes-of-requires : tie.Need-sizes-of-requires
-sizes-of-requires c κs = search needs
-
 returns : tie.Need-returns
 unfolding muxNumber
 returns c = simp (out-params _ (c .before .before .sizes-of .ensures) (c .if1 .taken))
@@ -105,4 +102,5 @@ returns-8 c =
     )
 
 pub mux-number-spec : {M : Type 1} → statement M
-mux-number-spec = tie.close (tie.spec sizes-of-requires returns returns-2 returns-3 returns-4 returns-5 returns-6 returns-7 returns-8)
+mux-number-spec = tie.close
+    (tie.spec (λ c κs. search needs) returns returns-2 returns-3 returns-4 returns-5 returns-6 returns-7 returns-8)

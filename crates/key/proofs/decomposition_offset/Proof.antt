@@ -20,9 +20,6 @@ both a v = record { answer = a; value = record { 0 = v } }
 number : {a : Answer} {n : ℕ} → a ≡ record { number = n; place = 0 } → a .number ≡ n
 number e = ap (λ (a : Answer). a .number) e
 
-check-requires : tie.Need-check-requires
-check-requires c κs = search needs
-
 returns : tie.Need-returns
 unfolding offsetOut
 returns c =
@@ -40,4 +37,5 @@ returns-2 c =
 
 pub decomposition-offset-spec : {M : Type 1} → statement M
 decomposition-offset-spec =
-    tie.close (tie.spec check-requires returns offset-sum-requires returns-2)
+    tie.close
+    (tie.spec (λ c κs. search needs) returns offset-sum-requires returns-2)

@@ -9,9 +9,6 @@ use borrow.Author.Needs.{needs}
 use Rattle.key.proofs.gen_key_switching_key.Statement.{statement}
 use Rattle.key.proofs.gen_key_switching_key.Tie as tie
 
-generate-number-requires : tie.Need-generate-number-requires
-generate-number-requires c κs = search needs
-
 returns : tie.Need-returns
 returns c =
     let e = c .before .generate-number .ensures in
@@ -26,9 +23,6 @@ generate-requires c κs =
     in
     (d .lent, d .rows)
 
-same-length : tie.Need-same-length
-same-length c = search needs
-
 returns-2 : tie.Need-returns-2
 returns-2 c =
     let z = sym (c .before .before .before .before .before .generate-number .ensures) ∙ c .before .before .before .before .if1 .left in
@@ -36,4 +30,5 @@ returns-2 c =
 
 pub gen-key-switching-key-spec : {M : Type 1} → statement M
 gen-key-switching-key-spec =
-    tie.close (tie.spec generate-number-requires returns generate-requires same-length returns-2)
+    tie.close
+    (tie.spec (λ c κs. search needs) returns generate-requires (λ c. search needs) returns-2)

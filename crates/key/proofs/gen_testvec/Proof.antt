@@ -2,7 +2,6 @@
 -- Assumes nothing.
 use mathlib.Core.Path.{_≡_, sym, ap, _∙_}
 use Prim.Native.Nat.{ℕ}
-use native.Mathlib.Omega.{arith}
 use lib.ListN.{length}
 use Rattle.ring.specs.Sums.{tab}
 use Rattle.params.specs.Refusal.{answer}
@@ -12,25 +11,10 @@ use borrow.Author.Needs.{needs}
 use Rattle.key.proofs.gen_testvec.Statement.{statement}
 use Rattle.key.proofs.gen_testvec.Tie as tie
 
-testvec-number-requires : tie.Need-testvec-number-requires
-testvec-number-requires c κs = search needs
-
 returns : tie.Need-returns
 returns c =
     let e = c .before .testvec-number .ensures in
     (ap answer e, (kept _ _ _ (λ z. c .if1 .taken (e ∙ z)), kept _ _ _ (λ z. c .if1 .taken (e ∙ z))))
-
-fill-requires : tie.Need-fill-requires
-fill-requires c κs = search needs
-
-fill-requires-2 : tie.Need-fill-requires-2
-fill-requires-2 c κs = search needs
-
-same-length : tie.Need-same-length
-same-length c = search needs
-
-same-length-2 : tie.Need-same-length-2
-same-length-2 c = search needs
 
 returns-2 : tie.Need-returns-2
 returns-2 c =
@@ -48,11 +32,4 @@ returns-2 c =
 pub gen-testvec-spec : {M : Type 1} → statement M
 gen-testvec-spec =
     tie.close
-    (tie.spec
-    testvec-number-requires
-    returns
-    fill-requires
-    fill-requires-2
-    same-length
-    same-length-2
-    returns-2)
+    (tie.spec (λ c κs. search needs) returns (λ c κs. search needs) (λ c κs. search needs) (λ c. search needs) (λ c. search needs) returns-2)

@@ -13,9 +13,6 @@ use borrow.Author.Needs.{needs}
 use Rattle.key.proofs.generate_number.Statement.{statement}
 use Rattle.key.proofs.generate_number.Tie as tie
 
-sizes-of-requires : tie.Need-sizes-of-requires
-sizes-of-requires c κs = search needs
-
 returns : tie.Need-returns
 unfolding generateNumber
 returns c =
@@ -67,9 +64,6 @@ returns-6 c =
     simp
     (eq-eqb (paramsNumber (g .p)) 0 (sized (g .p) e z), eq-eqb (length (g .key-lv0 .now)) (g .p .n) (c .before .before .before .before .before .before .before .before .if2 .left ∙ n-of (g .p) e z), eq-eqb (length (g .key-lv1 .now)) (size (g .p)) (c .before .before .before .before .before .before .if3 .left ∙ size-of (g .p) e z), eq-eqb (g .masks) (drawingRows (g .p) * g .p .n) (c .before .before .before .before .if4 .left ∙ masks-of (g .p) e z), eq-eqb (g .noise) (drawingRows (g .p)) (c .before .before .if5 .left ∙ noise-of (g .p) e z), ne-eqb (g .out) (switchingWords (g .p)) (λ q. c .if6 .taken (q ∙ sym (key-of (g .p) e z))))
 
-key-number-requires : tie.Need-key-number-requires
-key-number-requires c κs = search needs
-
 returns-7 : tie.Need-returns-7
 unfolding generateNumber
 returns-7 c =
@@ -78,9 +72,6 @@ returns-7 c =
     let z = c .before .before .before .before .before .before .before .before .before .before .before .before .if1 .left in
     simp
     (eq-eqb (paramsNumber (g .p)) 0 (sized (g .p) e z), eq-eqb (length (g .key-lv0 .now)) (g .p .n) (c .before .before .before .before .before .before .before .before .before .before .if2 .left ∙ n-of (g .p) e z), eq-eqb (length (g .key-lv1 .now)) (size (g .p)) (c .before .before .before .before .before .before .before .before .if3 .left ∙ size-of (g .p) e z), eq-eqb (g .masks) (drawingRows (g .p) * g .p .n) (c .before .before .before .before .before .before .if4 .left ∙ masks-of (g .p) e z), eq-eqb (g .noise) (drawingRows (g .p)) (c .before .before .before .before .if5 .left ∙ noise-of (g .p) e z), eq-eqb (g .out) (switchingWords (g .p)) (c .before .before .if6 .left ∙ key-of (g .p) e z), key-bad (g .key-lv0 .now) (λ q. c .if7 .taken (c .before .key-number .ensures ∙ q)))
-
-key-number-requires-2 : tie.Need-key-number-requires-2
-key-number-requires-2 c κs = search needs
 
 returns-8 : tie.Need-returns-8
 unfolding generateNumber
@@ -103,16 +94,5 @@ returns-9 c =
 pub generate-number-spec : {M : Type 1} → statement M
 generate-number-spec =
     tie.close
-    (tie.spec
-    sizes-of-requires
-    returns
-    returns-2
-    returns-3
-    returns-4
-    returns-5
-    returns-6
-    key-number-requires
-    returns-7
-    key-number-requires-2
-    returns-8
+    (tie.spec (λ c κs. search needs) returns returns-2 returns-3 returns-4 returns-5 returns-6 (λ c κs. search needs) returns-7 (λ c κs. search needs) returns-8
     returns-9)

@@ -13,9 +13,6 @@ use borrow.Author.Needs.{needs}
 use Rattle.key.proofs.lookup_number.Statement.{statement}
 use Rattle.key.proofs.lookup_number.Tie as tie
 
-sizes-of-requires : tie.Need-sizes-of-requires
-sizes-of-requires c κs = search needs
-
 returns : tie.Need-returns
 unfolding lookupNumber
 returns c =
@@ -42,9 +39,6 @@ returns-3 c =
     let k = key-of (g .p) e (c .before .before .before .before .if1 .left) in
     simp (eq-eqb (paramsNumber (g .p)) 0 n, eq-eqb (g .len) (switchingWords (g .p)) (c .before .before .if2 .left ∙ k), le-ltb (g .i) (size (g .p)) (rw z at (c .if3 .taken)))
 
-cast-if4 : tie.Need-cast-if4
-cast-if4 c = search needs
-
 returns-4 : tie.Need-returns-4
 unfolding lookupNumber
 returns-4 c =
@@ -54,12 +48,6 @@ returns-4 c =
     let z = size-of (g .p) e (c .before .before .before .before .before .before .if1 .left) in
     let k = key-of (g .p) e (c .before .before .before .before .before .before .if1 .left) in
     simp (eq-eqb (paramsNumber (g .p)) 0 n, eq-eqb (g .len) (switchingWords (g .p)) (c .before .before .before .before .if2 .left ∙ k), lt-ltb (g .i) (size (g .p)) (rw z at (c .before .before .if3 .left)), le-ltb (g .j) (g .p .t) (c .if4 .taken))
-
-power-requires : tie.Need-power-requires
-power-requires c κs = search needs
-
-cast-if5 : tie.Need-cast-if5
-cast-if5 c = search needs
 
 returns-5 : tie.Need-returns-5
 unfolding lookupNumber
@@ -86,14 +74,4 @@ returns-6 c =
 pub lookup-number-spec : {M : Type 1} → statement M
 lookup-number-spec =
     tie.close
-    (tie.spec
-    sizes-of-requires
-    returns
-    returns-2
-    returns-3
-    cast-if4
-    returns-4
-    power-requires
-    cast-if5
-    returns-5
-    returns-6)
+    (tie.spec (λ c κs. search needs) returns returns-2 returns-3 (λ c. search needs) returns-4 (λ c κs. search needs) (λ c. search needs) returns-5 returns-6)

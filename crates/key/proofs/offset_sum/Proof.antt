@@ -27,18 +27,6 @@ mul-power c = omega (arith, mul-le-mul-right (c .before .before .args .p .bgbit)
 sub-power : tie.Need-sub-power Inv-loop μ-loop
 sub-power c = omega (arith, mul-le-mul-right (c .before .before .args .p .bgbit) (c .loop-test .taken))
 
-power-requires : tie.Need-power-requires Inv-loop μ-loop
-power-requires c κs = search needs
-
-add-requires : tie.Need-add-requires Inv-loop μ-loop
-add-requires c κs = search needs
-
-add-i : tie.Need-add-i Inv-loop μ-loop
-add-i c = omega arith
-
-loop-less : tie.Need-loop-less Inv-loop μ-loop
-loop-less c = omega arith
-
 loop-again : tie.Need-loop-again Inv-loop μ-loop
 loop-again c =
     let l = c .before .before .before .loop in
@@ -51,15 +39,5 @@ returns c = sum-done _ (c .before .loop .inv .0) (c .loop-test .left) (c .before
 pub offset-sum-spec : {M : Type 1} → statement M
 offset-sum-spec =
     tie.close
-    (tie.spec
-    Inv-loop
-    μ-loop
-    loop-holds
-    mul-power
-    sub-power
-    power-requires
-    add-requires
-    add-i
-    loop-less
-    loop-again
+    (tie.spec Inv-loop μ-loop loop-holds mul-power sub-power (λ c κs. search needs) (λ c κs. search needs) (λ c. omega arith) (λ c. omega arith) loop-again
     returns)

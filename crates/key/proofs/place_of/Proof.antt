@@ -5,24 +5,6 @@ use borrow.Author.Needs.{needs}
 use Rattle.key.proofs.place_of.Statement.{statement}
 use Rattle.key.proofs.place_of.Tie as tie
 
-power-requires : tie.Need-power-requires
-power-requires c κs = search needs
-
-mul-requires : tie.Need-mul-requires
-mul-requires c κs = search needs
-
-mul-requires-2 : tie.Need-mul-requires-2
-mul-requires-2 c κs = search needs
-
-mul-requires-3 : tie.Need-mul-requires-3
-mul-requires-3 c κs = search needs
-
-add-requires : tie.Need-add-requires
-add-requires c κs = search needs
-
-add-requires-2 : tie.Need-add-requires-2
-add-requires-2 c κs = search needs
-
 returns : tie.Need-returns
 returns c =
     let g = c .before .before .before .before .before .before .args in
@@ -31,11 +13,4 @@ returns c =
 pub place-of-spec : {M : Type 1} → statement M
 place-of-spec =
     tie.close
-    (tie.spec
-    power-requires
-    mul-requires
-    mul-requires-2
-    mul-requires-3
-    add-requires
-    add-requires-2
-    returns)
+    (tie.spec (λ c κs. search needs) (λ c κs. search needs) (λ c κs. search needs) (λ c κs. search needs) (λ c κs. search needs) (λ c κs. search needs) returns)

@@ -28,12 +28,6 @@ number c = let g = c .before .before .args in c .lookup-number .ensures ∙ look
 good : (c : tie.Else1) → let g = c .before .before .before .args in LookupGood (g .p) (switchingWords (g .p)) (g .i) (g .j) (g .k)
 good c = lookup-good _ _ _ _ _ (sym (number (c .before)) ∙ c .if1 .left)
 
-sizes-of-requires : tie.Need-sizes-of-requires
-sizes-of-requires c κs = search needs
-
-lookup-number-requires : tie.Need-lookup-number-requires
-lookup-number-requires c κs = search needs
-
 returns : tie.Need-returns
 unfolding placeOut
 returns c = ap₂ both (number (c .before)) (kept _ _ _ (λ e. c .if1 .taken (number (c .before) ∙ e)))
@@ -47,9 +41,6 @@ cast-place-of-2 c = let l = good c in omega (arith, t-to _ (l .range))
 cast-place-of-3 : tie.Need-cast-place-of-3
 cast-place-of-3 c = let l = good c in omega (arith, base-to _ (l .range))
 
-place-of-requires : tie.Need-place-of-requires
-place-of-requires c κs = search needs
-
 returns-2 : tie.Need-returns-2
 unfolding placeOut
 returns-2 c =
@@ -61,12 +52,4 @@ returns-2 c =
 pub row-index-spec : {M : Type 1} → statement M
 row-index-spec =
     tie.close
-    (tie.spec
-    sizes-of-requires
-    lookup-number-requires
-    returns
-    cast-place-of
-    cast-place-of-2
-    cast-place-of-3
-    place-of-requires
-    returns-2)
+    (tie.spec (λ c κs. search needs) (λ c κs. search needs) returns cast-place-of cast-place-of-2 cast-place-of-3 (λ c κs. search needs) returns-2)

@@ -29,12 +29,6 @@ ends c =
     let l = good (c .before) in
     rw (row c, l .key) (row-end (g .p) (g .i) (g .j) (g .k) (l .outer) (l .field) (l .digit))
 
-lookup-number-requires : tie.Need-lookup-number-requires
-lookup-number-requires c κs = search needs
-
-slice-aggregate-result : tie.Need-slice-aggregate-result
-slice-aggregate-result c = search needs
-
 returns : tie.Need-returns
 returns c = kept _ _ _ (λ e. c .before .if1 .taken (c .before .before .lookup-number .ensures ∙ e))
 
@@ -47,18 +41,6 @@ cast-place-of-2 c = let l = good c in omega (arith, t-to _ (l .range))
 cast-place-of-3 : tie.Need-cast-place-of-3
 cast-place-of-3 c = let l = good c in omega (arith, base-to _ (l .range))
 
-place-of-requires : tie.Need-place-of-requires
-place-of-requires c κs = search needs
-
-cast-row : tie.Need-cast-row
-cast-row c = search needs
-
-cast-width : tie.Need-cast-width
-cast-width c = search needs
-
-add-width : tie.Need-add-width
-add-width c = search needs
-
 mul-at : tie.Need-mul-at
 mul-at c = omega (arith, ends (c .before))
 
@@ -67,12 +49,6 @@ add-end c = omega (arith, ends (c .before))
 
 mul-result : tie.Need-mul-result
 mul-result c = omega (arith, ends (c .before))
-
-sub-result : tie.Need-sub-result
-sub-result c = search needs
-
-part-result-start : tie.Need-part-result-start
-part-result-start c = search needs
 
 part-result-end : tie.Need-part-result-end
 part-result-end c = omega (arith, ends (c .before))
@@ -85,21 +61,5 @@ returns-2 c =
 pub switching-row-spec : {M : Type 1} → statement M
 switching-row-spec =
     tie.close
-    (tie.spec
-    lookup-number-requires
-    slice-aggregate-result
-    returns
-    cast-place-of
-    cast-place-of-2
-    cast-place-of-3
-    place-of-requires
-    cast-row
-    cast-width
-    add-width
-    mul-at
-    add-end
-    mul-result
-    sub-result
-    part-result-start
-    part-result-end
-    returns-2)
+    (tie.spec (λ c κs. search needs) (λ c. search needs) returns cast-place-of cast-place-of-2 cast-place-of-3 (λ c κs. search needs) (λ c. search needs)
+    (λ c. search needs) (λ c. search needs) mul-at add-end mul-result (λ c. search needs) (λ c. search needs) part-result-end returns-2)

@@ -6,11 +6,9 @@ use borrow.Author.Needs.{needs}
 use Rattle.key.proofs.switching_row_answer.Statement.{statement}
 use Rattle.key.proofs.switching_row_answer.Tie as tie
 
-lookup-number-requires : tie.Need-lookup-number-requires
-lookup-number-requires c κs = search needs
-
 returns : tie.Need-returns
 returns c = ap answer (c .lookup-number .ensures)
 
 pub switching-row-answer-spec : {M : Type 1} → statement M
-switching-row-answer-spec = tie.close (tie.spec lookup-number-requires returns)
+switching-row-answer-spec = tie.close
+    (tie.spec (λ c κs. search needs) returns)

@@ -1,7 +1,6 @@
 -- `key::testvec_number` meets its contract: each return rewrites with the tests that led there.
 -- Assumes nothing.
 use mathlib.Core.Path.{_≡_, sym, _∙_}
-use native.Mathlib.Omega.{arith}
 use borrow.Author.Tests.{eq-eqb, ne-eqb}
 use Rattle.params.specs.Ranges.{paramsNumber}
 use Rattle.params.specs.Sizes.{size}
@@ -10,9 +9,6 @@ use Rattle.key.proofs.Checks.{sized, unsized, size-of}
 use borrow.Author.Needs.{needs}
 use Rattle.key.proofs.testvec_number.Statement.{statement}
 use Rattle.key.proofs.testvec_number.Tie as tie
-
-sizes-of-requires : tie.Need-sizes-of-requires
-sizes-of-requires c κs = search needs
 
 returns : tie.Need-returns
 unfolding testNumber
@@ -45,4 +41,5 @@ returns-4 c =
     simp (eq-eqb (paramsNumber (g .p)) 0 (sized (g .p) e (c .before .before .before .before .if1 .left)), eq-eqb (g .a) (size (g .p)) (c .before .before .if2 .left ∙ z), eq-eqb (g .b) (size (g .p)) (c .if3 .left ∙ z))
 
 pub testvec-number-spec : {M : Type 1} → statement M
-testvec-number-spec = tie.close (tie.spec sizes-of-requires returns returns-2 returns-3 returns-4)
+testvec-number-spec = tie.close
+    (tie.spec (λ c κs. search needs) returns returns-2 returns-3 returns-4)

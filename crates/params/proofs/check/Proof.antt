@@ -6,11 +6,9 @@ use borrow.Author.Needs.{needs}
 use Rattle.params.proofs.check.Statement.{statement}
 use Rattle.params.proofs.check.Tie as tie
 
-number-requires : tie.Need-number-requires
-number-requires c κs = search needs
-
 returns : tie.Need-returns
 returns c = ap answer (c .number .ensures)
 
 pub check-spec : {M : Type 1} → statement M
-check-spec = tie.close (tie.spec number-requires returns)
+check-spec = tie.close
+    (tie.spec (λ c κs. search needs) returns)

@@ -52,12 +52,6 @@ returns-7 c =
     let p = c .before .before .before .before .before .before .before .before .before .before .before .before .before .before .args .p in
     simp (le-leb 1 (p .n) (c .before .before .before .before .before .before .before .before .before .before .before .before .if1 .left), le-leb (p .n) 1100 (c .before .before .before .before .before .before .before .before .before .before .if2 .left), le-leb 1 (p .nbit) (c .before .before .before .before .before .before .before .before .if3 .left), le-leb (p .nbit) 10 (c .before .before .before .before .before .before .if4 .left), le-leb 1 (p .bgbit) (c .before .before .before .before .if5 .left), le-leb (p .bgbit) 24 (c .before .before .if6 .left), lt-leb 1 (p .l) (c .if7 .taken))
 
-cast-if8 : tie.Need-cast-if8
-cast-if8 c = search needs
-
-cast-if8-2 : tie.Need-cast-if8-2
-cast-if8-2 c = search needs
-
 mul-if8 : tie.Need-mul-if8
 mul-if8 c =
     let p = c .before .before .before .before .before .before .before .before .before .before .before .before .before .before .before .before .args .p in
@@ -71,9 +65,6 @@ returns-8 c =
     let p = c .before .before .before .before .before .before .before .before .before .before .before .before .before .before .before .before .before .args .p in
     simp (le-leb 1 (p .n) (c .before .before .before .before .before .before .before .before .before .before .before .before .before .before .before .if1 .left), le-leb (p .n) 1100 (c .before .before .before .before .before .before .before .before .before .before .before .before .before .if2 .left), le-leb 1 (p .nbit) (c .before .before .before .before .before .before .before .before .before .before .before .if3 .left), le-leb (p .nbit) 10 (c .before .before .before .before .before .before .before .before .before .if4 .left), le-leb 1 (p .bgbit) (c .before .before .before .before .before .before .before .if5 .left), le-leb (p .bgbit) 24 (c .before .before .before .before .before .if6 .left), le-leb 1 (p .l) (c .before .before .before .if7 .left), lt-leb (p .l * p .bgbit) 32 (omega arith))
 
-switching-number-requires : tie.Need-switching-number-requires
-switching-number-requires c κs = search needs
-
 returns-9 : tie.Need-returns-9
 unfolding paramsNumber
 returns-9 c =
@@ -83,17 +74,5 @@ returns-9 c =
 pub number-spec : {M : Type 1} → statement M
 number-spec =
     tie.close
-    (tie.spec
-    returns
-    returns-2
-    returns-3
-    returns-4
-    returns-5
-    returns-6
-    returns-7
-    cast-if8
-    cast-if8-2
-    mul-if8
-    returns-8
-    switching-number-requires
-    returns-9)
+    (tie.spec returns returns-2 returns-3 returns-4 returns-5 returns-6 returns-7 (λ c. search needs) (λ c. search needs) mul-if8 returns-8
+    (λ c κs. search needs) returns-9)

@@ -15,29 +15,8 @@ bounds c =
     let r = c .before .before .before .before .before .before .pre in
     small _ _ _ _ _ (omega (arith, size-to p r)) (omega (arith, base-to p r)) (t-to p r) (l-to p r) (r .n-to)
 
-cast-n : tie.Need-cast-n
-cast-n c = search needs
-
-two-to-requires : tie.Need-two-to-requires
-two-to-requires c κs = search needs
-
-two-to-requires-2 : tie.Need-two-to-requires-2
-two-to-requires-2 c κs = search needs
-
-cast-fields : tie.Need-cast-fields
-cast-fields c = search needs
-
 mul-fields : tie.Need-mul-fields
 mul-fields c = let p = c .before .before .before .before .args .p in let r = c .before .before .before .before .pre in let h : c .before .before .two-to .result ≤ 1024 = omega (arith, size-to p r) in omega (arith, mul-le-mul h (t-to p r))
-
-cast-rows : tie.Need-cast-rows
-cast-rows c = search needs
-
-cast-rows-2 : tie.Need-cast-rows-2
-cast-rows-2 c = search needs
-
-add-rows : tie.Need-add-rows
-add-rows c = search needs
 
 add-bit : tie.Need-add-bit
 add-bit c = let p = c .before .before .before .before .before .before .args .p in omega (arith, size-to p (c .before .before .before .before .before .before .pre))
@@ -54,17 +33,11 @@ sub-drawing c = let p = c .before .before .before .before .before .before .args 
 mul-drawing : tie.Need-mul-drawing
 mul-drawing c = omega (arith, bounds c)
 
-add-t10 : tie.Need-add-t10
-add-t10 c = search needs
-
 add-t11 : tie.Need-add-t11
 add-t11 c = let p = c .before .before .before .before .before .before .args .p in omega (arith, size-to p (c .before .before .before .before .before .before .pre))
 
 mul-t12 : tie.Need-mul-t12
 mul-t12 c = omega (arith, bounds c)
-
-add-t13 : tie.Need-add-t13
-add-t13 c = search needs
 
 mul-t14 : tie.Need-mul-t14
 mul-t14 c = omega (arith, bounds c)
@@ -84,26 +57,6 @@ returns c = rw (c .before .before .before .before .two-to .ensures, c .before .b
 pub sizes-in-spec : {M : Type 1} → statement M
 sizes-in-spec =
     tie.close
-    (tie.spec
-    cast-n
-    two-to-requires
-    two-to-requires-2
-    cast-fields
-    mul-fields
-    cast-rows
-    cast-rows-2
-    add-rows
-    add-bit
-    mul-bit
-    mul-bitmasks
-    sub-drawing
-    mul-drawing
-    add-t10
-    add-t11
-    mul-t12
-    add-t13
-    mul-t14
-    mul-t15
-    mul-t16
-    mul-t17
-    returns)
+    (tie.spec (λ c. search needs) (λ c κs. search needs) (λ c κs. search needs) (λ c. search needs) mul-fields (λ c. search needs) (λ c. search needs)
+    (λ c. search needs) add-bit mul-bit mul-bitmasks sub-drawing mul-drawing (λ c. search needs) add-t11 mul-t12 (λ c. search needs) mul-t14 mul-t15 mul-t16
+    mul-t17 returns)

@@ -8,9 +8,6 @@ use borrow.Author.Needs.{needs}
 use Rattle.params.proofs.sizes_of.Statement.{statement}
 use Rattle.params.proofs.sizes_of.Tie as tie
 
-number-requires : tie.Need-number-requires
-number-requires c κs = search needs
-
 returns : tie.Need-returns
 unfolding sizesOf
 returns c = kept _ _ _ (λ e. c .if1 .taken (c .before .number .ensures ∙ e))
@@ -23,4 +20,5 @@ unfolding sizesOf
 returns-2 c = done _ _ _ (sym (c .before .before .number .ensures) ∙ c .before .if1 .left) (c .sizes-in .ensures)
 
 pub sizes-of-spec : {M : Type 1} → statement M
-sizes-of-spec = tie.close (tie.spec number-requires returns sizes-in-requires returns-2)
+sizes-of-spec = tie.close
+    (tie.spec (λ c κs. search needs) returns sizes-in-requires returns-2)

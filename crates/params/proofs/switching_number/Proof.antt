@@ -28,12 +28,6 @@ returns-3 c =
     let p = c .before .before .before .before .before .before .args .p in
     simp (le-leb 1 (p .basebit) (omega arith), le-leb (p .basebit) 6 (omega arith), lt-leb 1 (p .t) (omega arith))
 
-cast-if4 : tie.Need-cast-if4
-cast-if4 c = search needs
-
-cast-if4-2 : tie.Need-cast-if4-2
-cast-if4-2 c = search needs
-
 mul-if4 : tie.Need-mul-if4
 mul-if4 c =
     let p = c .before .before .before .before .before .before .before .before .args .p in
@@ -56,4 +50,4 @@ returns-5 c =
 pub switching-number-spec : {M : Type 1} → statement M
 switching-number-spec =
     tie.close
-    (tie.spec returns returns-2 returns-3 cast-if4 cast-if4-2 mul-if4 returns-4 returns-5)
+    (tie.spec returns returns-2 returns-3 (λ c. search needs) (λ c. search needs) mul-if4 returns-4 returns-5)

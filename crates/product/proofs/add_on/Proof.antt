@@ -7,18 +7,6 @@ use Rattle.product.proofs.Laws.{product-added}
 use Rattle.product.proofs.add_on.Statement.{statement}
 use Rattle.product.proofs.add_on.Tie as tie
 
-double-into-requires : tie.Need-double-into-requires
-double-into-requires c κs = search needs
-
-add-rows-requires : tie.Need-add-rows-requires
-add-rows-requires c κs = search needs
-
-same-length : tie.Need-same-length
-same-length c = search needs
-
-same-length-2 : tie.Need-same-length-2
-same-length-2 c = search needs
-
 returns : tie.Need-returns
 returns c =
     let g = c .before .before .before .before .before .before .before .before .before .before .before .before .before .args in
@@ -26,4 +14,5 @@ returns c =
 
 pub add-on-spec : {M : Type 1} → statement M
 add-on-spec =
-    tie.close (tie.spec double-into-requires add-rows-requires same-length same-length-2 returns)
+    tie.close
+    (tie.spec (λ c κs. search needs) (λ c κs. search needs) (λ c. search needs) (λ c. search needs) returns)

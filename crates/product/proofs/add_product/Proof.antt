@@ -14,31 +14,13 @@ use Rattle.product.proofs.add_product.Tie as tie
 scratch : (n : ℕ) → n ≤ 1024 → length {A = ℕ} (take (n + n) (replicate 2048 0)) ≡ n + n
 scratch n h = length-take-le (n + n) (replicate 2048 0) (omega arith)
 
-add-words : tie.Need-add-words
-add-words c = search needs
-
-array-borrow-prefix-twice : tie.Need-array-borrow-prefix-twice
-array-borrow-prefix-twice c = search needs
-
 slice-aggregate-add-on : tie.Need-slice-aggregate-add-on
 slice-aggregate-add-on c = sym (scratch (length (now (c .before .before .before .before .args .out))) (c .before .before .before .before .pre .2))
 
 add-on-requires : tie.Need-add-on-requires
 add-on-requires c κs = let p = c .before .before .before .before .before .pre in (p .0, p .1, scratch (length (now (c .before .before .before .before .before .args .out))) (p .2))
 
-same-length : tie.Need-same-length
-same-length c = search needs
-
-returns : tie.Need-returns
-returns c = search needs
-
 pub add-product-spec : {M : Type 1} → statement M
 add-product-spec =
     tie.close
-    (tie.spec
-    add-words
-    array-borrow-prefix-twice
-    slice-aggregate-add-on
-    add-on-requires
-    same-length
-    returns)
+    (tie.spec (λ c. search needs) (λ c. search needs) slice-aggregate-add-on add-on-requires (λ c. search needs) (λ c. search needs))

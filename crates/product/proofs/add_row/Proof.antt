@@ -23,20 +23,8 @@ abbrev μ-loop : tie.MeasureT-loop
 loop-holds : tie.Need-loop-holds Inv-loop μ-loop
 loop-holds c = (omega arith, refl, tab-none _ _)
 
-mul-out : tie.Need-mul-out Inv-loop μ-loop
-mul-out c = omega arith
-
-slice-read-out : tie.Need-slice-read-out Inv-loop μ-loop
-slice-read-out c = omega arith
-
 cast-out : tie.Need-cast-out Inv-loop μ-loop
 cast-out c = omega (arith, c .slice-known .given (c .before .before .loop .k))
-
-mul-out-2 : tie.Need-mul-out-2 Inv-loop μ-loop
-mul-out-2 c = omega arith
-
-shared-slice-read-out : tie.Need-shared-slice-read-out Inv-loop μ-loop
-shared-slice-read-out c = omega arith
 
 cast-out-2 : tie.Need-cast-out-2 Inv-loop μ-loop
 cast-out-2 c = omega (arith, c .shared-slice-known .given (c .before .before .before .loop .k))
@@ -53,21 +41,6 @@ add-out c =
     let hy : at (now (c .before .before .before .before .args .window)) (c .before .before .before .loop .k) ≤ 4294967295 = omega (arith, c .shared-slice-known .given (c .before .before .before .loop .k)) in
     omega (arith, mul-le-mul hx hy, c .before .slice-known .given (c .before .before .before .loop .k))
 
-cast-out-3 : tie.Need-cast-out-3 Inv-loop μ-loop
-cast-out-3 c = omega arith
-
-mul-out-4 : tie.Need-mul-out-4 Inv-loop μ-loop
-mul-out-4 c = omega arith
-
-slice-write-out : tie.Need-slice-write-out Inv-loop μ-loop
-slice-write-out c = omega arith
-
-add-k : tie.Need-add-k Inv-loop μ-loop
-add-k c = omega arith
-
-loop-less : tie.Need-loop-less Inv-loop μ-loop
-loop-less c = omega arith
-
 loop-again : tie.Need-loop-again Inv-loop μ-loop
 unfolding Q
 loop-again c =
@@ -77,9 +50,6 @@ loop-again c =
     let r = tab-read _ (now (g .out)) (l .k) h (l .inv .2) in
     (omega arith, simp length-set (l .inv .1), tab-more _ (now (g .out)) (l .k) h (l .inv .2) (rw r refl))
 
-same-length : tie.Need-same-length Inv-loop μ-loop
-same-length c = omega arith
-
 returns : tie.Need-returns Inv-loop μ-loop
 unfolding addBy
 returns c = let l = c .before .loop in tab-done _ _ (l .k) _ (l .inv .0) (omega arith) refl (l .inv .2)
@@ -87,23 +57,5 @@ returns c = let l = c .before .loop in tab-done _ _ (l .k) _ (l .inv .0) (omega 
 pub add-row-spec : {M : Type 1} → statement M
 add-row-spec =
     tie.close
-    (tie.spec
-    Inv-loop
-    μ-loop
-    loop-holds
-    mul-out
-    slice-read-out
-    cast-out
-    mul-out-2
-    shared-slice-read-out
-    cast-out-2
-    mul-out-3
-    add-out
-    cast-out-3
-    mul-out-4
-    slice-write-out
-    add-k
-    loop-less
-    loop-again
-    same-length
-    returns)
+    (tie.spec Inv-loop μ-loop loop-holds (λ c. omega arith) (λ c. omega arith) cast-out (λ c. omega arith) (λ c. omega arith) cast-out-2 mul-out-3 add-out
+    (λ c. omega arith) (λ c. omega arith) (λ c. omega arith) (λ c. omega arith) (λ c. omega arith) loop-again (λ c. omega arith) returns)

@@ -26,44 +26,11 @@ loop-holds c =
     let o = now (g .out) in
     (omega arith, refl, acc-none (length o) (at o) (λ k j. at (now (g .a)) (length o - suc j) * at (now (g .twice)) (suc j + k)) o (tab-of o (length o) (at o) refl (λ x l. refl)) (λ x l. c .slice-known .given x .fits))
 
-add-start : tie.Need-add-start Inv-loop μ-loop
-add-start c = omega arith
-
-add-end : tie.Need-add-end Inv-loop μ-loop
-add-end c = omega arith
-
-sub-add-row : tie.Need-sub-add-row Inv-loop μ-loop
-sub-add-row c = omega arith
-
-mul-add-row : tie.Need-mul-add-row Inv-loop μ-loop
-mul-add-row c = omega arith
-
-shared-slice-read-add-row : tie.Need-shared-slice-read-add-row Inv-loop μ-loop
-shared-slice-read-add-row c = omega arith
-
-mul-add-row-2 : tie.Need-mul-add-row-2 Inv-loop μ-loop
-mul-add-row-2 c = omega arith
-
-sub-add-row-2 : tie.Need-sub-add-row-2 Inv-loop μ-loop
-sub-add-row-2 c = omega arith
-
-part-add-row-start : tie.Need-part-add-row-start Inv-loop μ-loop
-part-add-row-start c = omega arith
-
-part-add-row-end : tie.Need-part-add-row-end Inv-loop μ-loop
-part-add-row-end c = omega arith
-
 add-row-requires : tie.Need-add-row-requires Inv-loop μ-loop
 add-row-requires c κs =
     let g = c .before .before .before .before .before .before .before .before .args in
     let l = c .before .before .before .before .loop in
     part-length (now (g .twice)) (l .j + 1) (length (now (g .out))) (omega arith) ∙ sym (l .inv .1)
-
-add-j : tie.Need-add-j Inv-loop μ-loop
-add-j c = omega arith
-
-loop-less : tie.Need-loop-less Inv-loop μ-loop
-loop-less c = omega arith
 
 loop-again : tie.Need-loop-again Inv-loop μ-loop
 loop-again c =
@@ -76,9 +43,6 @@ loop-again c =
       acc-more (length o) (at o) (λ k j. at (now (g .a)) (length o - suc j) * at (now (g .twice)) (suc j + k)) (l .j) _ (λ x lx. row-term (now (g .a)) (now (g .twice)) (length o) (l .j) x lx) (l .inv .2) (c .before .before .add-row .ensures),
     )
 
-same-length : tie.Need-same-length Inv-loop μ-loop
-same-length c = omega arith
-
 returns : tie.Need-returns Inv-loop μ-loop
 returns c =
     let g = c .before .before .before .before .before .args in
@@ -89,22 +53,5 @@ returns c =
 pub add-rows-spec : {M : Type 1} → statement M
 add-rows-spec =
     tie.close
-    (tie.spec
-    Inv-loop
-    μ-loop
-    loop-holds
-    add-start
-    add-end
-    sub-add-row
-    mul-add-row
-    shared-slice-read-add-row
-    mul-add-row-2
-    sub-add-row-2
-    part-add-row-start
-    part-add-row-end
-    add-row-requires
-    add-j
-    loop-less
-    loop-again
-    same-length
-    returns)
+    (tie.spec Inv-loop μ-loop loop-holds (λ c. omega arith) (λ c. omega arith) (λ c. omega arith) (λ c. omega arith) (λ c. omega arith) (λ c. omega arith)
+    (λ c. omega arith) (λ c. omega arith) (λ c. omega arith) add-row-requires (λ c. omega arith) (λ c. omega arith) loop-again (λ c. omega arith) returns)

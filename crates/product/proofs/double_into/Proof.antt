@@ -21,30 +21,12 @@ abbrev μ-loop : tie.MeasureT-loop
 loop-holds : tie.Need-loop-holds Inv-loop μ-loop
 loop-holds c = (omega arith, refl, tab-none _ _)
 
-doubled-at-requires : tie.Need-doubled-at-requires Inv-loop μ-loop
-doubled-at-requires c κs = omega arith
-
-mul-twice : tie.Need-mul-twice Inv-loop μ-loop
-mul-twice c = omega arith
-
-slice-write-twice : tie.Need-slice-write-twice Inv-loop μ-loop
-slice-write-twice c = omega arith
-
-add-i : tie.Need-add-i Inv-loop μ-loop
-add-i c = omega arith
-
-loop-less : tie.Need-loop-less Inv-loop μ-loop
-loop-less c = omega arith
-
 loop-again : tie.Need-loop-again Inv-loop μ-loop
 loop-again c =
     let g = c .before .before .before .before .before .args in
     let l = c .before .before .loop in
     let h : l .i < length (now (g .twice)) = omega arith in
     (omega arith, simp length-set (l .inv .1), tab-more _ (now (g .twice)) (l .i) h (l .inv .2) (c .doubled-at .ensures))
-
-same-length : tie.Need-same-length Inv-loop μ-loop
-same-length c = omega arith
 
 returns : tie.Need-returns Inv-loop μ-loop
 unfolding doubled
@@ -56,15 +38,5 @@ returns c =
 pub double-into-spec : {M : Type 1} → statement M
 double-into-spec =
     tie.close
-    (tie.spec
-    Inv-loop
-    μ-loop
-    loop-holds
-    doubled-at-requires
-    mul-twice
-    slice-write-twice
-    add-i
-    loop-less
-    loop-again
-    same-length
-    returns)
+    (tie.spec Inv-loop μ-loop loop-holds (λ c κs. omega arith) (λ c. omega arith) (λ c. omega arith) (λ c. omega arith) (λ c. omega arith) loop-again
+    (λ c. omega arith) returns)

@@ -12,25 +12,10 @@ use Rattle.product.proofs.Laws.{doubled-low, doubled-high}
 use Rattle.product.proofs.doubled_at.Statement.{statement}
 use Rattle.product.proofs.doubled_at.Tie as tie
 
-mul-sub : tie.Need-mul-sub
-mul-sub c = search needs
-
-shared-slice-read-sub : tie.Need-shared-slice-read-sub
-shared-slice-read-sub c = search needs
-
-sub-requires : tie.Need-sub-requires
-sub-requires c κs = search needs
-
 returns : tie.Need-returns
 returns c =
     let g = c .before .before .before .before .args in
     c .sub .ensures ∙ ap (λ (y : ℕ). y % Q) (zero-add (neg (at (now (g .b)) (g .i)))) ∙ sym (doubled-low (length (now (g .b))) (now (g .b)) (g .i) (omega arith))
-
-mul-result : tie.Need-mul-result
-mul-result c = search needs
-
-shared-slice-read-result : tie.Need-shared-slice-read-result
-shared-slice-read-result c = search needs
 
 returns-2 : tie.Need-returns-2
 returns-2 c =
@@ -40,11 +25,4 @@ returns-2 c =
 pub doubled-at-spec : {M : Type 1} → statement M
 doubled-at-spec =
     tie.close
-    (tie.spec
-    mul-sub
-    shared-slice-read-sub
-    sub-requires
-    returns
-    mul-result
-    shared-slice-read-result
-    returns-2)
+    (tie.spec (λ c. search needs) (λ c. search needs) (λ c κs. search needs) returns (λ c. search needs) (λ c. search needs) returns-2)

@@ -10,9 +10,6 @@ use Rattle.product.proofs.Laws.{range-refused, range-passed, size-passe
 use Rattle.product.proofs.product_number.Statement.{statement}
 use Rattle.product.proofs.product_number.Tie as tie
 
-sizes-of-requires : tie.Need-sizes-of-requires
-sizes-of-requires c κs = search needs
-
 returns : tie.Need-returns
 unfolding productNumber
 returns c =
@@ -57,4 +54,5 @@ returns-5 c =
 
 pub product-number-spec : {M : Type 1} → statement M
 product-number-spec =
-    tie.close (tie.spec sizes-of-requires returns returns-2 returns-3 returns-4 returns-5)
+    tie.close
+    (tie.spec (λ c κs. search needs) returns returns-2 returns-3 returns-4 returns-5)

@@ -8,19 +8,11 @@ use Rattle.product.proofs.Laws.{product-put}
 use Rattle.product.proofs.put_product.Statement.{statement}
 use Rattle.product.proofs.put_product.Tie as tie
 
-clear-requires : tie.Need-clear-requires
-clear-requires c κs = search needs
-
-add-product-requires : tie.Need-add-product-requires
-add-product-requires c κs = search needs
-
-same-length : tie.Need-same-length
-same-length c = search needs
-
 returns : tie.Need-returns
 returns c =
     let g = c .before .before .before .before .before .before .before .before .before .before .before .args in
     product-put (length (now (g .out))) (now (g .a)) (now (g .b)) (omega arith) (c .before .before .before .before .before .before .clear .ensures) (c .before .before .add-product .ensures)
 
 pub put-product-spec : {M : Type 1} → statement M
-put-product-spec = tie.close (tie.spec clear-requires add-product-requires same-length returns)
+put-product-spec = tie.close
+    (tie.spec (λ c κs. search needs) (λ c κs. search needs) (λ c. search needs) returns)

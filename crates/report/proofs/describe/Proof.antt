@@ -16,12 +16,6 @@ use Rattle.report.proofs.Texts.{answer-short, answer-fits, out-short, o
 use Rattle.report.proofs.describe.Statement.{statement}
 use Rattle.report.proofs.describe.Tie as tie
 
-slice-aggregate-put-text : tie.Need-slice-aggregate-put-text
-slice-aggregate-put-text c = search needs
-
-put-text-requires : tie.Need-put-text-requires
-put-text-requires c κs = search needs
-
 returns : tie.Need-returns
 returns c =
     let a = c .before .before .before .before .before .before .args in
@@ -29,9 +23,6 @@ returns c =
     let e = c .before .before .put-text .ensures .0 .0 in
     let h : length (now (a .out)) < length (textOf b) = omega arith in
     (answer-short b (length (now (a .out))) h, out-short b (now (a .out)) h)
-
-array-share-prefix-text : tie.Need-array-share-prefix-text
-array-share-prefix-text c = search needs
 
 slice-aggregate-put : tie.Need-slice-aggregate-put
 slice-aggregate-put c = let k = c .before .before .before .before .put-text .kept .1 .0 in let l = c .before .before .before .before .put-text .ensures .0 .1 in sym (length-take-le (c .before .before .before .before .put-text .result) (c .before .before .before .before .put-text .last .1 .0) (omega arith))
@@ -42,9 +33,6 @@ put-requires c κs =
     let l = c .before .before .before .before .put-text .ensures .0 .1 in
     let t = length-take-le (c .before .before .before .before .put-text .result) (c .before .before .before .before .put-text .last .1 .0) (omega arith) in
     omega arith
-
-same-length : tie.Need-same-length
-same-length c = search needs
 
 returns-2 : tie.Need-returns-2
 returns-2 c =
@@ -60,12 +48,4 @@ returns-2 c =
 pub describe-spec : {M : Type 1} → statement M
 describe-spec =
     tie.close
-    (tie.spec
-    slice-aggregate-put-text
-    put-text-requires
-    returns
-    array-share-prefix-text
-    slice-aggregate-put
-    put-requires
-    same-length
-    returns-2)
+    (tie.spec (λ c. search needs) (λ c κs. search needs) returns (λ c. search needs) slice-aggregate-put put-requires (λ c. search needs) returns-2)

@@ -6,12 +6,10 @@ use borrow.Author.Needs.{needs}
 use Rattle.ring.proofs.complement.Statement.{statement}
 use Rattle.ring.proofs.complement.Tie as tie
 
-sub-result : tie.Need-sub-result
-sub-result c = search needs
-
 returns : tie.Need-returns
 unfolding Q comp
 returns c = omega arith
 
 pub complement-spec : {M : Type 1} → statement M
-complement-spec = tie.close (tie.spec sub-result returns)
+complement-spec = tie.close
+    (tie.spec (λ c. search needs) returns)

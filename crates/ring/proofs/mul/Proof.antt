@@ -12,12 +12,10 @@ use Rattle.ring.proofs.mul.Tie as tie
 mul-wide : tie.Need-mul-wide
 mul-wide c = let hx : c .args .x ≤ 4294967295 = omega arith in let hy : c .args .y ≤ 4294967295 = omega arith in omega (arith, mul-le-mul hx hy)
 
-cast-result : tie.Need-cast-result
-cast-result c = search needs
-
 returns : tie.Need-returns
 unfolding Q
 returns c = refl
 
 pub mul-spec : {M : Type 1} → statement M
-mul-spec = tie.close (tie.spec mul-wide cast-result returns)
+mul-spec = tie.close
+    (tie.spec mul-wide (λ c. search needs) returns)

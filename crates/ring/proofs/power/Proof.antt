@@ -3,7 +3,6 @@
 use mathlib.Core.Path.{_∙_, sym, ap}
 use Prim.Native.Nat.{ℕ, _%_, _^_, _*_, _-_}
 use native.Mathlib.Nat.{one-mul}
-use native.Mathlib.Omega.{arith}
 use Rattle.ring.specs.Word.{Q}
 use Rattle.ring.proofs.Words.{power-past}
 use borrow.Author.Needs.{needs}
@@ -14,12 +13,10 @@ returns : tie.Need-returns
 unfolding Q
 returns c = power-past (c .before .args .s) (c .if1 .taken)
 
-shl-result : tie.Need-shl-result
-shl-result c = search needs
-
 returns-2 : tie.Need-returns-2
 unfolding Q
 returns-2 c = ap (λ (x : ℕ). x % 4294967296) (one-mul (2 ^ c .before .args .s))
 
 pub power-spec : {M : Type 1} → statement M
-power-spec = tie.close (tie.spec returns shl-result returns-2)
+power-spec = tie.close
+    (tie.spec returns (λ c. search needs) returns-2)

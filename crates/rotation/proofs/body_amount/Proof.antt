@@ -8,9 +8,6 @@ use borrow.Author.Needs.{needs}
 use Rattle.rotation.proofs.body_amount.Statement.{statement}
 use Rattle.rotation.proofs.body_amount.Tie as tie
 
-check-requires : tie.Need-check-requires
-check-requires c κs = search needs
-
 returns : tie.Need-returns
 returns c = rounded-refused _ _ (c .before .before .check .ensures) (c .if1 .taken)
 
@@ -21,4 +18,5 @@ returns-2 : tie.Need-returns-2
 returns-2 c = rounded-made _ _ (c .before .before .before .check .ensures) (c .before .if1 .left) (c .body-steps .ensures)
 
 pub body-amount-spec : {M : Type 1} → statement M
-body-amount-spec = tie.close (tie.spec check-requires returns body-steps-requires returns-2)
+body-amount-spec = tie.close
+    (tie.spec (λ c κs. search needs) returns body-steps-requires returns-2)

@@ -2,7 +2,6 @@
 -- Assumes nothing.
 use mathlib.Core.Path.{_≡_, sym, ap, ap₂, _∙_}
 use Prim.Native.Nat.{ℕ, _+_, _-_, _/_, _^_, _≤_, _<_}
-use native.Mathlib.Omega.{arith}
 use lib.Pow.{pow-pos}
 use Rattle.params.specs.Sizes.{size}
 use Rattle.ring.specs.Word.{Q}
@@ -11,33 +10,6 @@ use Rattle.rotation.proofs.Amounts.{turn-is, body-steps-to}
 use borrow.Author.Needs.{needs}
 use Rattle.rotation.proofs.body_steps.Statement.{statement}
 use Rattle.rotation.proofs.body_steps.Tie as tie
-
-sub-two-to : tie.Need-sub-two-to
-sub-two-to c = search needs
-
-two-to-requires : tie.Need-two-to-requires
-two-to-requires c κs = search needs
-
-sub-two-to-2 : tie.Need-sub-two-to-2
-sub-two-to-2 c = search needs
-
-two-to-requires-2 : tie.Need-two-to-requires-2
-two-to-requires-2 c κs = search needs
-
-cast-step : tie.Need-cast-step
-cast-step c = search needs
-
-add-two-to : tie.Need-add-two-to
-add-two-to c = search needs
-
-two-to-requires-3 : tie.Need-two-to-requires-3
-two-to-requires-3 c κs = search needs
-
-cast-turn : tie.Need-cast-turn
-cast-turn c = search needs
-
-body-sum-requires : tie.Need-body-sum-requires
-body-sum-requires c κs = search needs
 
 div-steps : tie.Need-div-steps
 div-steps c = rw (c .before .before .before .two-to2 .ensures) (pow-pos _)
@@ -60,9 +32,6 @@ sub-result c =
     let b : d .args .b < Q = search needs in
     rw (steps c, turn c) (body-steps-to (d .args .p) (d .pre) (d .args .b) b)
 
-cast-result : tie.Need-cast-result
-cast-result c = search needs
-
 returns : tie.Need-returns
 unfolding bodyAmount
 returns c = ap₂ (λ (x y : ℕ). x - y) (turn c) (steps c)
@@ -70,17 +39,5 @@ returns c = ap₂ (λ (x y : ℕ). x - y) (turn c) (steps c)
 pub body-steps-spec : {M : Type 1} → statement M
 body-steps-spec =
     tie.close
-    (tie.spec
-    sub-two-to
-    two-to-requires
-    sub-two-to-2
-    two-to-requires-2
-    cast-step
-    add-two-to
-    two-to-requires-3
-    cast-turn
-    body-sum-requires
-    div-steps
-    sub-result
-    cast-result
-    returns)
+    (tie.spec (λ c. search needs) (λ c κs. search needs) (λ c. search needs) (λ c κs. search needs) (λ c. search needs) (λ c. search needs)
+    (λ c κs. search needs) (λ c. search needs) (λ c κs. search needs) div-steps sub-result (λ c. search needs) returns)

@@ -5,11 +5,9 @@ use borrow.Author.Needs.{needs}
 use Rattle.rotation.proofs.body_sum.Statement.{statement}
 use Rattle.rotation.proofs.body_sum.Tie as tie
 
-add-result : tie.Need-add-result
-add-result c = search needs
-
 returns : tie.Need-returns
 returns c = refl
 
 pub body-sum-spec : {M : Type 1} → statement M
-body-sum-spec = tie.close (tie.spec add-result returns)
+body-sum-spec = tie.close
+    (tie.spec (λ c. search needs) returns)

@@ -9,21 +9,6 @@ use borrow.Author.Needs.{needs}
 use Rattle.rotation.proofs.mask_steps.Statement.{statement}
 use Rattle.rotation.proofs.mask_steps.Tie as tie
 
-sub-two-to : tie.Need-sub-two-to
-sub-two-to c = search needs
-
-two-to-requires : tie.Need-two-to-requires
-two-to-requires c κs = search needs
-
-add-requires : tie.Need-add-requires
-add-requires c κs = search needs
-
-sub-two-to-2 : tie.Need-sub-two-to-2
-sub-two-to-2 c = search needs
-
-two-to-requires-2 : tie.Need-two-to-requires-2
-two-to-requires-2 c κs = search needs
-
 div-result : tie.Need-div-result
 div-result c = rw (c .two-to2 .ensures) (pow-pos _)
 
@@ -36,11 +21,4 @@ returns c =
 pub mask-steps-spec : {M : Type 1} → statement M
 mask-steps-spec =
     tie.close
-    (tie.spec
-    sub-two-to
-    two-to-requires
-    add-requires
-    sub-two-to-2
-    two-to-requires-2
-    div-result
-    returns)
+    (tie.spec (λ c. search needs) (λ c κs. search needs) (λ c κs. search needs) (λ c. search needs) (λ c κs. search needs) div-result returns)

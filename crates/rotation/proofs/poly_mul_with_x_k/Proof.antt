@@ -2,7 +2,6 @@
 -- Assumes nothing.
 use mathlib.Core.Path.{_≡_, sym, ap, _∙_}
 use Prim.Native.Nat.{ℕ, _+_, _≤_}
-use native.Mathlib.Omega.{arith}
 use lib.ListN.{length}
 use Rattle.params.specs.Refusal.{answer}
 use Rattle.params.proofs.Answers.{kept, done}
@@ -17,17 +16,8 @@ use Rattle.rotation.proofs.poly_mul_with_x_k.Tie as tie
 good : (c : tie.Then1) → let a = c .before .before .before .before .args in RotateGood (a .p) (length (a .a .now)) (length (a .out .now)) (a .k .0)
 good c = rotate-good _ _ _ _ (sym (c .before .rotate-number .ensures) ∙ c .if1 .taken)
 
-rotate-number-requires : tie.Need-rotate-number-requires
-rotate-number-requires c κs = search needs
-
-cast-rotate-into : tie.Need-cast-rotate-into
-cast-rotate-into c = search needs
-
 rotate-into-requires : tie.Need-rotate-into-requires
 rotate-into-requires c κs = let g = good (c .before) in (g .into ∙ sym (g .from), rw (g .from) (g .amount))
-
-same-length : tie.Need-same-length
-same-length c = search needs
 
 returns : tie.Need-returns
 returns c =
@@ -42,10 +32,4 @@ returns-2 c = let e = c .before .rotate-number .ensures in (ap answer e, kept _ 
 pub poly-mul-with-x-k-spec : {M : Type 1} → statement M
 poly-mul-with-x-k-spec =
     tie.close
-    (tie.spec
-    rotate-number-requires
-    cast-rotate-into
-    rotate-into-requires
-    same-length
-    returns
-    returns-2)
+    (tie.spec (λ c κs. search needs) (λ c. search needs) rotate-into-requires (λ c. search needs) returns returns-2)

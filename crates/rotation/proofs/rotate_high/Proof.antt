@@ -11,24 +11,6 @@ use borrow.Author.Needs.{needs}
 use Rattle.rotation.proofs.rotate_high.Statement.{statement}
 use Rattle.rotation.proofs.rotate_high.Tie as tie
 
-sub-m : tie.Need-sub-m
-sub-m c = search needs
-
-mul-copy : tie.Need-mul-copy
-mul-copy c = search needs
-
-sub-copy : tie.Need-sub-copy
-sub-copy c = search needs
-
-part-copy-start : tie.Need-part-copy-start
-part-copy-start c = search needs
-
-part-copy-end : tie.Need-part-copy-end
-part-copy-end c = search needs
-
-slice-relend-prefix-copy : tie.Need-slice-relend-prefix-copy
-slice-relend-prefix-copy c = search needs
-
 slice-aggregate-copy : tie.Need-slice-aggregate-copy
 slice-aggregate-copy c =
     let d = c .before .before .before .before in sym (length-take-le (d .args .k) (d .args .out .now) (omega arith))
@@ -42,18 +24,6 @@ slice-aggregate-turn-over : tie.Need-slice-aggregate-turn-over
 slice-aggregate-turn-over c =
     let d = c .before .before .before .before .before .before .before .before in sym (first-length (d .args .a .now) (d .args .k) (d .pre .1))
 
-mul-turn-over : tie.Need-mul-turn-over
-mul-turn-over c = search needs
-
-sub-turn-over : tie.Need-sub-turn-over
-sub-turn-over c = search needs
-
-part-turn-over-start : tie.Need-part-turn-over-start
-part-turn-over-start c = search needs
-
-part-turn-over-end : tie.Need-part-turn-over-end
-part-turn-over-end c = search needs
-
 -- the first part has k words
 front : (c : tie.After-copy) → length (c .copy .last .1 .0) ≡ c .before .before .before .before .before .args .k
 front c = let d = c .before .before .before .before .before in ap length (c .copy .ensures) ∙ length-tab _ _ ∙ last-length (d .args .a .now) (d .args .k) (d .pre .1)
@@ -64,9 +34,6 @@ turn-over-requires c κs =
     back-length (d .args .out .now) (c .before .before .before .before .copy .last .1 .0) (d .args .k) (front (c .before .before .before .before)) (omega arith)
     ∙ ap (λ (n : ℕ). n - d .args .k) (d .pre .0) ∙ sym (first-length (d .args .a .now) (d .args .k) (d .pre .1))
 
-same-length : tie.Need-same-length
-same-length c = search needs
-
 returns : tie.Need-returns
 returns c =
     let d = c .before .before .before .before .before .before .before .before .before .before .before .before in
@@ -76,20 +43,6 @@ returns c =
 pub rotate-high-spec : {M : Type 1} → statement M
 rotate-high-spec =
     tie.close
-    (tie.spec
-    sub-m
-    mul-copy
-    sub-copy
-    part-copy-start
-    part-copy-end
-    slice-relend-prefix-copy
-    slice-aggregate-copy
-    copy-requires
-    slice-aggregate-turn-over
-    mul-turn-over
-    sub-turn-over
-    part-turn-over-start
-    part-turn-over-end
-    turn-over-requires
-    same-length
-    returns)
+    (tie.spec (λ c. search needs) (λ c. search needs) (λ c. search needs) (λ c. search needs) (λ c. search needs) (λ c. search needs) slice-aggregate-copy
+    copy-requires slice-aggregate-turn-over (λ c. search needs) (λ c. search needs) (λ c. search needs) (λ c. search needs) turn-over-requires
+    (λ c. search needs) returns)

@@ -9,24 +9,6 @@ use borrow.Author.Needs.{needs}
 use Rattle.rotation.proofs.rotate_into.Statement.{statement}
 use Rattle.rotation.proofs.rotate_into.Tie as tie
 
-rotate-low-requires : tie.Need-rotate-low-requires
-rotate-low-requires c κs = search needs
-
-same-length : tie.Need-same-length
-same-length c = search needs
-
-returns : tie.Need-returns
-returns c = search needs
-
-sub-rotate-high : tie.Need-sub-rotate-high
-sub-rotate-high c = search needs
-
-rotate-high-requires : tie.Need-rotate-high-requires
-rotate-high-requires c κs = search needs
-
-same-length-2 : tie.Need-same-length-2
-same-length-2 c = search needs
-
 returns-2 : tie.Need-returns-2
 returns-2 c =
     let d = c .before .before .before .before .before .before .before in
@@ -37,11 +19,4 @@ returns-2 c =
 pub rotate-into-spec : {M : Type 1} → statement M
 rotate-into-spec =
     tie.close
-    (tie.spec
-    rotate-low-requires
-    same-length
-    returns
-    sub-rotate-high
-    rotate-high-requires
-    same-length-2
-    returns-2)
+    (tie.spec (λ c κs. search needs) (λ c. search needs) (λ c. search needs) (λ c. search needs) (λ c κs. search needs) (λ c. search needs) returns-2)

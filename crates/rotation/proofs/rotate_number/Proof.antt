@@ -21,9 +21,6 @@ number-is c = in-params _ (c .before .before .sizes-of .ensures) (c .if1 .left)
 size-is : (c : tie.Else1) → c .before .before .sizes-of .result .size ≡ size (c .before .before .before .args .p)
 size-is c = ap (λ (s : Sizes). s .size) (lengths-in _ (c .before .before .sizes-of .ensures) (c .if1 .left))
 
-sizes-of-requires : tie.Need-sizes-of-requires
-sizes-of-requires c κs = search needs
-
 returns : tie.Need-returns
 unfolding rotateNumber
 returns c = simp (ne-eqb _ 0 (out-params _ (c .before .before .sizes-of .ensures) (c .if1 .taken)))
@@ -77,4 +74,5 @@ returns-5 c =
 
 pub rotate-number-spec : {M : Type 1} → statement M
 rotate-number-spec =
-    tie.close (tie.spec sizes-of-requires returns returns-2 returns-3 add-if4 returns-4 returns-5)
+    tie.close
+    (tie.spec (λ c κs. search needs) returns returns-2 returns-3 add-if4 returns-4 returns-5)

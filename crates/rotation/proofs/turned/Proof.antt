@@ -4,11 +4,9 @@ use borrow.Author.Needs.{needs}
 use Rattle.rotation.proofs.turned.Statement.{statement}
 use Rattle.rotation.proofs.turned.Tie as tie
 
-complement-requires : tie.Need-complement-requires
-complement-requires c κs = search needs
-
 returns : tie.Need-returns
 returns c = c .complement .ensures
 
 pub turned-spec : {M : Type 1} → statement M
-turned-spec = tie.close (tie.spec complement-requires returns)
+turned-spec = tie.close
+    (tie.spec (λ c κs. search needs) returns)

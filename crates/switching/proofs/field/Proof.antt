@@ -10,23 +10,14 @@ use borrow.Author.Needs.{needs}
 use Rattle.switching.proofs.field.Statement.{statement}
 use Rattle.switching.proofs.field.Tie as tie
 
-add-two-to : tie.Need-add-two-to
-add-two-to c = search needs
-
 mul-two-to : tie.Need-mul-two-to
 mul-two-to c = let d = c .before in omega (arith, fields-fit (d .args .p) (d .pre .0) (d .args .j) (d .pre .1))
 
 sub-two-to : tie.Need-sub-two-to
 sub-two-to c = let d = c .before in omega (arith, fields-fit (d .args .p) (d .pre .0) (d .args .j) (d .pre .1))
 
-two-to-requires : tie.Need-two-to-requires
-two-to-requires c κs = search needs
-
 div-result : tie.Need-div-result
 div-result c = rw (c .two-to .ensures) (pow-pos _)
-
-two-to-requires-2 : tie.Need-two-to-requires-2
-two-to-requires-2 c κs = search needs
 
 rem-result : tie.Need-rem-result
 rem-result c = rw (c .two-to2 .ensures) (pow-pos _)
@@ -38,12 +29,4 @@ returns c = ap₂ (λ (w b : ℕ). c .before .before .before .args .x / w % b) (
 pub field-spec : {M : Type 1} → statement M
 field-spec =
     tie.close
-    (tie.spec
-    add-two-to
-    mul-two-to
-    sub-two-to
-    two-to-requires
-    div-result
-    two-to-requires-2
-    rem-result
-    returns)
+    (tie.spec (λ c. search needs) mul-two-to sub-two-to (λ c κs. search needs) div-result (λ c κs. search needs) rem-result returns)

@@ -14,14 +14,8 @@ use Rattle.switching.proofs.identity_key_switching.Tie as tie
 good : (c : tie.Then1) → let a = c .before .before .before .before .before .args in SwitchGood (a .p) (length (a .src .now)) (length (a .ksk .now)) (length (a .out .now))
 good c = switch-good _ _ _ _ (sym (c .before .switch-number .ensures) ∙ c .if1 .taken)
 
-switch-number-requires : tie.Need-switch-number-requires
-switch-number-requires c κs = search needs
-
 switch-into-requires : tie.Need-switch-into-requires
 switch-into-requires c κs = let g = good (c .before) in (g .range, g .from, g .rows, g .into)
-
-same-length : tie.Need-same-length
-same-length c = search needs
 
 returns : tie.Need-returns
 returns c =
@@ -34,4 +28,5 @@ returns-2 c = let e = c .before .switch-number .ensures in (ap answer e, kept _ 
 
 pub identity-key-switching-spec : {M : Type 1} → statement M
 identity-key-switching-spec =
-    tie.close (tie.spec switch-number-requires switch-into-requires same-length returns returns-2)
+    tie.close
+    (tie.spec (λ c κs. search needs) switch-into-requires (λ c. search needs) returns returns-2)

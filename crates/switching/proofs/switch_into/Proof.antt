@@ -29,26 +29,8 @@ Inv-loop p src ksk out₀ m r i₀ out i = (i ≤ length src - 1) × (length out
 abbrev μ-loop : tie.MeasureT-loop
 μ-loop p src ksk out₀ m r i₀ out i = length src - 1 - i
 
-sub-size : tie.Need-sub-size Inv-loop μ-loop
-sub-size c = omega arith
-
-mul-start : tie.Need-mul-start Inv-loop μ-loop
-mul-start c = omega arith
-
-shared-slice-read-start : tie.Need-shared-slice-read-start Inv-loop μ-loop
-shared-slice-read-start c = omega arith
-
 start-requires : tie.Need-start-requires Inv-loop μ-loop
 start-requires c κs = c .before .before .before .before .before .pre .3
-
-mul-two-to : tie.Need-mul-two-to Inv-loop μ-loop
-mul-two-to c = omega arith
-
-sub-two-to : tie.Need-sub-two-to Inv-loop μ-loop
-sub-two-to c = omega arith
-
-two-to-requires : tie.Need-two-to-requires Inv-loop μ-loop
-two-to-requires c κs = omega arith
 
 loop-holds : tie.Need-loop-holds Inv-loop μ-loop
 unfolding Q
@@ -63,15 +45,6 @@ loop-holds c =
           (λ x l. start-below (g .p) (at (g .src .now) (size (g .p))) x (c .before .before .before .before .before .before .before .before .before .shared-slice-known .given (size (g .p)) .fits)),
     )
 
-mul-add : tie.Need-mul-add Inv-loop μ-loop
-mul-add c = omega arith
-
-shared-slice-read-add : tie.Need-shared-slice-read-add Inv-loop μ-loop
-shared-slice-read-add c = omega arith
-
-add-requires : tie.Need-add-requires Inv-loop μ-loop
-add-requires c κs = search needs
-
 cast-use-mask : tie.Need-cast-use-mask Inv-loop μ-loop
 cast-use-mask c = let d = c .before .before .before .before .before .before .before .before .before .before .before .before .before .before in omega (arith, size-to (d .args .p) (d .pre .0))
 
@@ -79,12 +52,6 @@ use-mask-requires : tie.Need-use-mask-requires Inv-loop μ-loop
 use-mask-requires c κs =
     let d = c .before .before .before .before .before .before .before .before .before .before .before .before .before .before .before in
     (d .pre .0, omega arith, d .pre .2, c .before .before .before .before .loop .inv .1)
-
-add-i : tie.Need-add-i Inv-loop μ-loop
-add-i c = omega arith
-
-loop-less : tie.Need-loop-less Inv-loop μ-loop
-loop-less c = omega arith
 
 loop-again : tie.Need-loop-again Inv-loop μ-loop
 unfolding rounded rounding fieldAt
@@ -99,9 +66,6 @@ loop-again c =
           (λ x h. ap (λ (a : ℕ). sumTo (g .p .t) (λ j. takes (g .p) (g .ksk .now) (l .i) j (fieldOf (g .p) a j) x)) r) (l .inv .2) (c .before .before .use-mask .ensures),
     )
 
-same-length : tie.Need-same-length Inv-loop μ-loop
-same-length c = omega arith
-
 returns : tie.Need-returns Inv-loop μ-loop
 unfolding switched accTo
 returns c =
@@ -112,24 +76,6 @@ returns c =
 pub switch-into-spec : {M : Type 1} → statement M
 switch-into-spec =
     tie.close
-    (tie.spec
-    Inv-loop
-    μ-loop
-    sub-size
-    mul-start
-    shared-slice-read-start
-    start-requires
-    mul-two-to
-    sub-two-to
-    two-to-requires
-    loop-holds
-    mul-add
-    shared-slice-read-add
-    add-requires
-    cast-use-mask
-    use-mask-requires
-    add-i
-    loop-less
-    loop-again
-    same-length
-    returns)
+    (tie.spec Inv-loop μ-loop (λ c. omega arith) (λ c. omega arith) (λ c. omega arith) start-requires (λ c. omega arith) (λ c. omega arith)
+    (λ c κs. omega arith) loop-holds (λ c. omega arith) (λ c. omega arith) (λ c κs. search needs) cast-use-mask use-mask-requires (λ c. omega arith)
+    (λ c. omega arith) loop-again (λ c. omega arith) returns)

@@ -19,9 +19,6 @@ number-is c = sized _ (c .before .before .sizes-of .ensures) (c .if1 .left)
 lengths-are : (c : tie.Else1) → c .before .before .sizes-of .result ≡ sizesIn (c .before .before .before .args .p)
 lengths-are c = lengths _ (c .before .before .sizes-of .ensures) (c .if1 .left)
 
-sizes-of-requires : tie.Need-sizes-of-requires
-sizes-of-requires c κs = search needs
-
 returns : tie.Need-returns
 unfolding switchNumber
 returns c = simp (ne-eqb _ 0 (unsized _ (c .before .before .sizes-of .ensures) (c .if1 .taken)))
@@ -79,4 +76,5 @@ returns-5 c =
 
 pub switch-number-spec : {M : Type 1} → statement M
 switch-number-spec =
-    tie.close (tie.spec sizes-of-requires returns returns-2 returns-3 returns-4 returns-5)
+    tie.close
+    (tie.spec (λ c κs. search needs) returns returns-2 returns-3 returns-4 returns-5)

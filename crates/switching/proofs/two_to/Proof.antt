@@ -5,11 +5,9 @@ use borrow.Author.Needs.{needs}
 use Rattle.switching.proofs.two_to.Statement.{statement}
 use Rattle.switching.proofs.two_to.Tie as tie
 
-shl-result : tie.Need-shl-result
-shl-result c = search needs
-
 returns : tie.Need-returns
 returns c = one-shl (c .args .s) (search needs)
 
 pub two-to-spec : {M : Type 1} → statement M
-two-to-spec = tie.close (tie.spec shl-result returns)
+two-to-spec = tie.close
+    (tie.spec (λ c. search needs) returns)

@@ -22,9 +22,6 @@ returns c =
     let g = c .before .before .before .args in
     add-none (g .out .now) _ (λ x. c .before .slice-known .given x .fits) (λ x l. takes-none (g .p) (g .ksk .now) (g .i) (g .j) (g .k) x (c .if1 .taken))
 
-switching-row-requires : tie.Need-switching-row-requires
-switching-row-requires c κs = search needs
-
 -- the lookup is not refused, so what it hands back is the row
 row : (c : tie.After-switching-row) → let g = c .before .before .before .before .args in c .switching-row .result .now ≡ rowPart (g .p) (g .ksk .now) (g .i) (g .j) (g .k)
 row c =
@@ -38,9 +35,6 @@ sub-row-requires c κs =
     let g = d .args in
     ap length (row (c .before)) ∙ row-length (g .p) (g .i) (g .j) (g .k) (d .pre .1) (d .pre .2) (d .pre .3) (g .ksk .now) (d .pre .4) ∙ sym (d .pre .5)
 
-same-length : tie.Need-same-length
-same-length c = search needs
-
 returns-2 : tie.Need-returns-2
 returns-2 c =
     let g = c .before .before .before .before .before .before .before .before .args in
@@ -50,9 +44,4 @@ returns-2 c =
 pub use-field-spec : {M : Type 1} → statement M
 use-field-spec =
     tie.close
-    (tie.spec
-    returns
-    switching-row-requires
-    sub-row-requires
-    same-length
-    returns-2)
+    (tie.spec returns (λ c κs. search needs) sub-row-requires (λ c. search needs) returns-2)

@@ -13,7 +13,6 @@ use Rattle.ring.proofs.Loop.{length-add, acc-none, acc-more, acc-done}
 use Rattle.switching.specs.Switched.{fieldOf, takes}
 use Rattle.switching.proofs.Fields.{field-below}
 use Rattle.switching.proofs.Rows.{as-tab}
-use borrow.Author.Needs.{needs}
 use Rattle.switching.proofs.use_mask.Statement.{statement}
 use Rattle.switching.proofs.use_mask.Tie as tie
 
@@ -42,12 +41,6 @@ use-field-requires c κs =
     let d = c .before .before .before .before .before .before in
     (d .pre .0, d .pre .1, omega arith, rw (c .before .field .ensures) (field-below (d .args .p) (d .args .a) (c .before .before .before .loop .j)), d .pre .2, c .before .before .before .loop .inv .1 ∙ d .pre .3)
 
-add-j : tie.Need-add-j Inv-loop μ-loop
-add-j c = omega arith
-
-loop-less : tie.Need-loop-less Inv-loop μ-loop
-loop-less c = omega arith
-
 loop-again : tie.Need-loop-again Inv-loop μ-loop
 loop-again c =
     let g = c .before .before .before .before .before .before .before .before .before .args in
@@ -58,9 +51,6 @@ loop-again c =
       acc-more (length o) (λ x. at o x) (term (g .p) (g .ksk .now) (g .i) (g .a)) (l .j) _
           (λ x h. ap (λ (k : ℕ). takes (g .p) (g .ksk .now) (g .i) (l .j) k x) (c .before .before .before .before .field .ensures)) (l .inv .2) (c .before .before .use-field .ensures),
     )
-
-same-length : tie.Need-same-length Inv-loop μ-loop
-same-length c = omega arith
 
 returns : tie.Need-returns Inv-loop μ-loop
 unfolding addBy accTo
@@ -73,14 +63,4 @@ returns c =
 pub use-mask-spec : {M : Type 1} → statement M
 use-mask-spec =
     tie.close
-    (tie.spec
-    Inv-loop
-    μ-loop
-    loop-holds
-    field-requires
-    use-field-requires
-    add-j
-    loop-less
-    loop-again
-    same-length
-    returns)
+    (tie.spec Inv-loop μ-loop loop-holds field-requires use-field-requires (λ c. omega arith) (λ c. omega arith) loop-again (λ c. omega arith) returns)

@@ -8,14 +8,8 @@ use borrow.Author.Needs.{needs}
 use Rattle.tlwe.proofs.dimension_of.Statement.{statement}
 use Rattle.tlwe.proofs.dimension_of.Tie as tie
 
-sizes-of-requires : tie.Need-sizes-of-requires
-sizes-of-requires c κs = search needs
-
 enum-told : tie.Need-enum-told
 enum-told c = search needs
-
-enum-told-2 : tie.Need-enum-told-2
-enum-told-2 c = search needs
 
 returns : tie.Need-returns
 returns c = ap (λ (s : Sizes). s .n) (c .before .before .sizes-of .ensures) ∙ masks-zero _ ∙ sym (ap (dimensionOf _) (c .enum-told .given .1))
@@ -24,4 +18,5 @@ returns-2 : tie.Need-returns-2
 returns-2 c = ap (λ (s : Sizes). s .size) (c .before .before .sizes-of .ensures) ∙ masks-one _ ∙ sym (ap (dimensionOf _) (c .enum-told2 .given .1))
 
 pub dimension-of-spec : {M : Type 1} → statement M
-dimension-of-spec = tie.close (tie.spec sizes-of-requires enum-told enum-told-2 returns returns-2)
+dimension-of-spec = tie.close
+    (tie.spec (λ c κs. search needs) enum-told (λ c. search needs) returns returns-2)

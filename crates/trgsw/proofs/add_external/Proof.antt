@@ -23,22 +23,10 @@ slice-aggregate-external-rows c = sym (scratch (length (c .before .before .befor
 external-rows-requires : tie.Need-external-rows-requires
 external-rows-requires c κs = let r = c .before .before .before .before .before .before .before .before .pre in (r .0, (r .1 .0, r .1 .1, r .1 .2, scratch (length (c .before .before .before .before .before .before .before .before .args .a .now)) (room (c .before .before .before .before .before .before .before .before)) ∙ r .1 .1, r .1 .3, r .1 .4))
 
-same-length : tie.Need-same-length
-same-length c = search needs
-
-same-length-2 : tie.Need-same-length-2
-same-length-2 c = search needs
-
 returns : tie.Need-returns
 returns c = c .before .before .before .before .before .external-rows .ensures
 
 pub add-external-spec : {M : Type 1} → statement M
 add-external-spec =
     tie.close
-    (tie.spec
-    array-borrow-prefix-d
-    slice-aggregate-external-rows
-    external-rows-requires
-    same-length
-    same-length-2
-    returns)
+    (tie.spec array-borrow-prefix-d slice-aggregate-external-rows external-rows-requires (λ c. search needs) (λ c. search needs) returns)

@@ -12,20 +12,11 @@ use borrow.Author.Needs.{needs}
 use Rattle.trgsw.proofs.cmux.Statement.{statement}
 use Rattle.trgsw.proofs.cmux.Tie as tie
 
-cmux-number-requires : tie.Need-cmux-number-requires
-cmux-number-requires c κs = tt
-
 put-cmux-requires : tie.Need-put-cmux-requires
 put-cmux-requires c κs =
     let a = c .before .before .before .before .before .before .before .before .before .before .before .args in
     let g = cmux-good (a .p) (length (a .a1 .now)) (length (a .b1 .now)) (length (a .a2 .now)) (length (a .b2 .now)) (length (a .rows .now)) (length (a .outa .now)) (length (a .outb .now)) (sym (c .before .before .before .cmux-number .ensures) ∙ c .before .before .if1 .taken) in
     (g .range, (g .first, g .second, g .third, g .fourth, g .rows, g .into-a, g .into-b))
-
-same-length : tie.Need-same-length
-same-length c = search needs
-
-same-length-2 : tie.Need-same-length-2
-same-length-2 c = search needs
 
 returns : tie.Need-returns
 returns c =
@@ -52,10 +43,4 @@ returns-2 c =
 pub cmux-spec : {M : Type 1} → statement M
 cmux-spec =
     tie.close
-    (tie.spec
-    cmux-number-requires
-    put-cmux-requires
-    same-length
-    same-length-2
-    returns
-    returns-2)
+    (tie.spec (λ c κs. tt) put-cmux-requires (λ c. search needs) (λ c. search needs) returns returns-2)

@@ -11,9 +11,6 @@ use Rattle.trgsw.specs.Refusals.{cmuxNumber}
 use Rattle.trgsw.proofs.cmux_number.Statement.{statement}
 use Rattle.trgsw.proofs.cmux_number.Tie as tie
 
-sizes-of-requires : tie.Need-sizes-of-requires
-sizes-of-requires c κs = search needs
-
 returns : tie.Need-returns
 unfolding cmuxNumber
 returns c =
@@ -102,4 +99,5 @@ returns-9 c =
 
 pub cmux-number-spec : {M : Type 1} → statement M
 cmux-number-spec =
-    tie.close (tie.spec sizes-of-requires returns returns-2 returns-3 returns-4 returns-5 returns-6 returns-7 returns-8 returns-9)
+    tie.close
+    (tie.spec (λ c κs. search needs) returns returns-2 returns-3 returns-4 returns-5 returns-6 returns-7 returns-8 returns-9)

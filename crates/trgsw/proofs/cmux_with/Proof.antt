@@ -33,18 +33,6 @@ add-external-requires c κs =
     let r = c .before .before .before .before .before .before .before .before .before .before .before .before .before .before .before .before .before .before .before .before .before .before .before .before .before .before .before .before .before .pre in
     (r .0, (r .1 .4, c .before .before .before .before .before .before .before .before .before .before .before .before .before .before .before .before .before .before .difference .kept .1 .1 .0 ∙ r .1 .5, c .before .before .before .before .before .before .before .before .before .before .before .before .before .before .difference2 .kept .1 .1 .0 ∙ r .1 .6, c .before .before .before .before .before .before .before .before .before .before .copy .kept .1 .0 ∙ r .1 .7, c .before .before .before .before .before .before .copy2 .kept .1 .0 ∙ r .1 .8))
 
-same-length : tie.Need-same-length
-same-length c = search needs
-
-same-length-2 : tie.Need-same-length-2
-same-length-2 c = search needs
-
-same-length-3 : tie.Need-same-length-3
-same-length-3 c = search needs
-
-same-length-4 : tie.Need-same-length-4
-same-length-4 c = search needs
-
 returns : tie.Need-returns
 unfolding cmuxOf
 returns c =
@@ -61,14 +49,5 @@ returns c =
 pub cmux-with-spec : {M : Type 1} → statement M
 cmux-with-spec =
     tie.close
-    (tie.spec
-    difference-requires
-    difference-requires-2
-    copy-requires
-    copy-requires-2
-    add-external-requires
-    same-length
-    same-length-2
-    same-length-3
-    same-length-4
-    returns)
+    (tie.spec difference-requires difference-requires-2 copy-requires copy-requires-2 add-external-requires (λ c. search needs) (λ c. search needs)
+    (λ c. search needs) (λ c. search needs) returns)

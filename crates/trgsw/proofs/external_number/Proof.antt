@@ -11,9 +11,6 @@ use Rattle.trgsw.specs.Refusals.{externalNumber}
 use Rattle.trgsw.proofs.external_number.Statement.{statement}
 use Rattle.trgsw.proofs.external_number.Tie as tie
 
-sizes-of-requires : tie.Need-sizes-of-requires
-sizes-of-requires c κs = search needs
-
 returns : tie.Need-returns
 unfolding externalNumber
 returns c =
@@ -82,4 +79,5 @@ returns-7 c =
 
 pub external-number-spec : {M : Type 1} → statement M
 external-number-spec =
-    tie.close (tie.spec sizes-of-requires returns returns-2 returns-3 returns-4 returns-5 returns-6 returns-7)
+    tie.close
+    (tie.spec (λ c κs. search needs) returns returns-2 returns-3 returns-4 returns-5 returns-6 returns-7)

@@ -12,20 +12,11 @@ use borrow.Author.Needs.{needs}
 use Rattle.trgsw.proofs.external_product.Statement.{statement}
 use Rattle.trgsw.proofs.external_product.Tie as tie
 
-external-number-requires : tie.Need-external-number-requires
-external-number-requires c κs = tt
-
 put-external-requires : tie.Need-put-external-requires
 put-external-requires c κs =
     let a = c .before .before .before .before .before .before .before .before .before .args in
     let g = external-good (a .p) (length (a .rows .now)) (length (a .a .now)) (length (a .b .now)) (length (a .outa .now)) (length (a .outb .now)) (sym (c .before .before .before .external-number .ensures) ∙ c .before .before .if1 .taken) in
     (g .range, (g .rows, g .first, g .second, g .into-a, g .into-b))
-
-same-length : tie.Need-same-length
-same-length c = search needs
-
-same-length-2 : tie.Need-same-length-2
-same-length-2 c = search needs
 
 returns : tie.Need-returns
 returns c =
@@ -50,10 +41,4 @@ returns-2 c =
 pub external-product-spec : {M : Type 1} → statement M
 external-product-spec =
     tie.close
-    (tie.spec
-    external-number-requires
-    put-external-requires
-    same-length
-    same-length-2
-    returns
-    returns-2)
+    (tie.spec (λ c κs. tt) put-external-requires (λ c. search needs) (λ c. search needs) returns returns-2)

@@ -13,20 +13,11 @@ use borrow.Author.Needs.{needs}
 use Rattle.trgsw.proofs.external_product_add.Statement.{statement}
 use Rattle.trgsw.proofs.external_product_add.Tie as tie
 
-external-number-requires : tie.Need-external-number-requires
-external-number-requires c κs = tt
-
 add-external-requires : tie.Need-add-external-requires
 add-external-requires c κs =
     let a = c .before .before .before .before .before .before .before .before .before .args in
     let g = external-good (a .p) (length (a .rows .now)) (length (a .a .now)) (length (a .b .now)) (length (a .outa .now)) (length (a .outb .now)) (sym (c .before .before .before .external-number .ensures) ∙ c .before .before .if1 .taken) in
     (g .range, (g .rows, g .first, g .second, g .into-a, g .into-b))
-
-same-length : tie.Need-same-length
-same-length c = search needs
-
-same-length-2 : tie.Need-same-length-2
-same-length-2 c = search needs
 
 returns : tie.Need-returns
 returns c =
@@ -51,10 +42,4 @@ returns-2 c =
 pub external-product-add-spec : {M : Type 1} → statement M
 external-product-add-spec =
     tie.close
-    (tie.spec
-    external-number-requires
-    add-external-requires
-    same-length
-    same-length-2
-    returns
-    returns-2)
+    (tie.spec (λ c κs. tt) add-external-requires (λ c. search needs) (λ c. search needs) returns returns-2)

@@ -15,9 +15,6 @@ use Rattle.trgsw.proofs.external_row.Tie as tie
 fit : (s : tie.Start) → s .args .r * (length (s .args .a .now) + length (s .args .a .now)) + length (s .args .a .now) + length (s .args .a .now) ≤ length (s .args .rows .now)
 fit s = row-fits (s .args .p) (s .args .r) (length (s .args .a .now)) (s .pre .1 .0) (s .pre .1 .2) (s .pre .1 .1)
 
-add-row : tie.Need-add-row
-add-row c = omega arith
-
 mul-row : tie.Need-mul-row
 mul-row c = omega (arith, fit (c .before .before .before .before .before .before))
 
@@ -27,47 +24,17 @@ add-mid c = omega (arith, fit (c .before .before .before .before .before .before
 add-end : tie.Need-add-end
 add-end c = omega (arith, fit (c .before .before .before .before .before .before))
 
-digit-polynomial-requires : tie.Need-digit-polynomial-requires
-digit-polynomial-requires c κs = tt
-
 mul-poly-mul-add : tie.Need-mul-poly-mul-add
 mul-poly-mul-add c = omega (arith, fit (c .before .before .before .before .before .before .before .before .before .before .before))
-
-sub-poly-mul-add : tie.Need-sub-poly-mul-add
-sub-poly-mul-add c = omega arith
-
-part-poly-mul-add-start : tie.Need-part-poly-mul-add-start
-part-poly-mul-add-start c = omega arith
 
 part-poly-mul-add-end : tie.Need-part-poly-mul-add-end
 part-poly-mul-add-end c = omega (arith, fit (c .before .before .before .before .before .before .before .before .before .before .before))
 
-poly-mul-add-requires : tie.Need-poly-mul-add-requires
-poly-mul-add-requires c κs = tt
-
 mul-poly-mul-add-2 : tie.Need-mul-poly-mul-add-2
 mul-poly-mul-add-2 c = omega (arith, fit (c .before .before .before .before .before .before .before .before .before .before .before .before .before .before .before .before .before))
 
-sub-poly-mul-add-2 : tie.Need-sub-poly-mul-add-2
-sub-poly-mul-add-2 c = omega arith
-
-part-poly-mul-add-start-2 : tie.Need-part-poly-mul-add-start-2
-part-poly-mul-add-start-2 c = omega arith
-
 part-poly-mul-add-end-2 : tie.Need-part-poly-mul-add-end-2
 part-poly-mul-add-end-2 c = omega (arith, fit (c .before .before .before .before .before .before .before .before .before .before .before .before .before .before .before .before .before))
-
-poly-mul-add-requires-2 : tie.Need-poly-mul-add-requires-2
-poly-mul-add-requires-2 c κs = tt
-
-same-length : tie.Need-same-length
-same-length c = search needs
-
-same-length-2 : tie.Need-same-length-2
-same-length-2 c = search needs
-
-same-length-3 : tie.Need-same-length-3
-same-length-3 c = search needs
 
 returns : tie.Need-returns
 returns c =
@@ -87,23 +54,6 @@ returns c =
 pub external-row-spec : {M : Type 1} → statement M
 external-row-spec =
     tie.close
-    (tie.spec
-    add-row
-    mul-row
-    add-mid
-    add-end
-    digit-polynomial-requires
-    mul-poly-mul-add
-    sub-poly-mul-add
-    part-poly-mul-add-start
-    part-poly-mul-add-end
-    poly-mul-add-requires
-    mul-poly-mul-add-2
-    sub-poly-mul-add-2
-    part-poly-mul-add-start-2
-    part-poly-mul-add-end-2
-    poly-mul-add-requires-2
-    same-length
-    same-length-2
-    same-length-3
+    (tie.spec (λ c. omega arith) mul-row add-mid add-end (λ c κs. tt) mul-poly-mul-add (λ c. omega arith) (λ c. omega arith) part-poly-mul-add-end (λ c κs. tt)
+    mul-poly-mul-add-2 (λ c. omega arith) (λ c. omega arith) part-poly-mul-add-end-2 (λ c κs. tt) (λ c. search needs) (λ c. search needs) (λ c. search needs)
     returns)

@@ -89,16 +89,4 @@ returns c =
 pub external-rows-spec : {M : Type 1} → statement M
 external-rows-spec =
     tie.close
-    (tie.spec
-    Inv-loop
-    μ-loop
-    add-count
-    loop-holds
-    external-row-requires
-    add-r
-    loop-less
-    loop-again
-    same-length
-    same-length-2
-    same-length-3
-    returns)
+    (tie.spec Inv-loop μ-loop add-count loop-holds external-row-requires add-r loop-less loop-again same-length same-length-2 same-length-3 returns)

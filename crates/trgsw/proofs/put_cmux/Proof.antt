@@ -32,24 +32,11 @@ cmux-with-requires c κs =
     let w = scratch (length (c .before .before .before .before .before .before .before .before .before .before .before .args .a1 .now)) (room (c .before .before .before .before .before .before .before .before .before .before .before)) ∙ r .1 .0 in
     (r .0, (r .1 .0, r .1 .1, r .1 .2, r .1 .3, r .1 .4, w, w, r .1 .5, r .1 .6))
 
-same-length : tie.Need-same-length
-same-length c = search needs
-
-same-length-2 : tie.Need-same-length-2
-same-length-2 c = search needs
-
 returns : tie.Need-returns
 returns c = c .before .before .before .before .before .before .cmux-with .ensures
 
 pub put-cmux-spec : {M : Type 1} → statement M
 put-cmux-spec =
     tie.close
-    (tie.spec
-    array-borrow-prefix-da
-    slice-aggregate-cmux-with
-    array-borrow-prefix-db
-    slice-aggregate-cmux-with-2
-    cmux-with-requires
-    same-length
-    same-length-2
-    returns)
+    (tie.spec array-borrow-prefix-da slice-aggregate-cmux-with array-borrow-prefix-db slice-aggregate-cmux-with-2 cmux-with-requires (λ c. search needs)
+    (λ c. search needs) returns)

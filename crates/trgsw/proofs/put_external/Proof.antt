@@ -10,20 +10,8 @@ use borrow.Author.Needs.{needs}
 use Rattle.trgsw.proofs.put_external.Statement.{statement}
 use Rattle.trgsw.proofs.put_external.Tie as tie
 
-clear-requires : tie.Need-clear-requires
-clear-requires c κs = tt
-
-clear-requires-2 : tie.Need-clear-requires-2
-clear-requires-2 c κs = tt
-
 add-external-requires : tie.Need-add-external-requires
 add-external-requires c κs = let r = c .before .before .before .before .before .before .before .before .before .before .before .before .before .before .before .pre in (r .0, (r .1 .0, r .1 .1, r .1 .2, omega (arith, c .before .before .before .before .before .before .before .before .clear .kept, c .before .before .before .before .clear2 .kept, r .1), omega (arith, c .before .before .before .before .before .before .before .before .clear .kept, c .before .before .before .before .clear2 .kept, r .1)))
-
-same-length : tie.Need-same-length
-same-length c = search needs
-
-same-length-2 : tie.Need-same-length-2
-same-length-2 c = search needs
 
 returns : tie.Need-returns
 unfolding external
@@ -37,10 +25,4 @@ returns c =
 pub put-external-spec : {M : Type 1} → statement M
 put-external-spec =
     tie.close
-    (tie.spec
-    clear-requires
-    clear-requires-2
-    add-external-requires
-    same-length
-    same-length-2
-    returns)
+    (tie.spec (λ c κs. tt) (λ c κs. tt) add-external-requires (λ c. search needs) (λ c. search needs) returns)

@@ -12,9 +12,6 @@ use Rattle.trlwe.specs.Decrypt.{decryptNumber}
 use Rattle.trlwe.proofs.decrypt_number.Statement.{statement}
 use Rattle.trlwe.proofs.decrypt_number.Tie as tie
 
-sizes-of-requires : tie.Need-sizes-of-requires
-sizes-of-requires c κs = search needs
-
 returns : tie.Need-returns
 unfolding decryptNumber
 returns c =
@@ -57,9 +54,6 @@ returns-5 c =
     let s = size-passed (a .p) e z in
     simp (eq-eqb (paramsNumber (a .p)) 0 (range-passed (a .p) e z), eq-eqb (a .la) (size (a .p)) (c .before .before .before .before .before .before .if2 .left ∙ s), eq-eqb (a .lb) (size (a .p)) (c .before .before .before .before .if3 .left ∙ s), eq-eqb (length (now (a .key))) (size (a .p)) (c .before .before .if4 .left ∙ s), ne-eqb (a .lo) (size (a .p)) (λ q. c .if5 .taken (q ∙ sym s)))
 
-key-number-requires : tie.Need-key-number-requires
-key-number-requires c κs = search needs
-
 returns-6 : tie.Need-returns-6
 unfolding decryptNumber
 returns-6 c =
@@ -70,4 +64,5 @@ returns-6 c =
     c .key-number .ensures ∙ sym (simp (eq-eqb (paramsNumber (a .p)) 0 (range-passed (a .p) e z), eq-eqb (a .la) (size (a .p)) (c .before .before .before .before .before .before .before .if2 .left ∙ s), eq-eqb (a .lb) (size (a .p)) (c .before .before .before .before .before .if3 .left ∙ s), eq-eqb (length (now (a .key))) (size (a .p)) (c .before .before .before .if4 .left ∙ s), eq-eqb (a .lo) (size (a .p)) (c .before .if5 .left ∙ s)))
 
 pub decrypt-number-spec : {M : Type 1} → statement M
-decrypt-number-spec = tie.close (tie.spec sizes-of-requires returns returns-2 returns-3 returns-4 returns-5 key-number-requires returns-6)
+decrypt-number-spec = tie.close
+    (tie.spec (λ c κs. search needs) returns returns-2 returns-3 returns-4 returns-5 (λ c κs. search needs) returns-6)

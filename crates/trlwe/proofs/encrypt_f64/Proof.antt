@@ -10,9 +10,6 @@ use Rattle.trlwe.proofs.Checks.{EncryptGood, encrypt-good}
 use Rattle.trlwe.proofs.encrypt_f64.Statement.{statement}
 use Rattle.trlwe.proofs.encrypt_f64.Tie as tie
 
-encrypt-number-requires : tie.Need-encrypt-number-requires
-encrypt-number-requires c κs = search needs
-
 -- where the number is 0 nothing is refused
 good : (c : tie.After-encrypt-number) → c .encrypt-number .result ≡ 0
     → let g = c .before .before .before .before .before .before .before .args in EncryptGood (g .p) (length (now (g .plain))) (length (now (g .masks))) (length (now (g .noise))) (now (g .key)) (length (now (g .a))) (length (now (g .b)))
@@ -20,12 +17,6 @@ good c e = encrypt-good _ _ _ _ _ _ _ (sym (c .encrypt-number .ensures) ∙ e)
 
 seal-doubles-requires : tie.Need-seal-doubles-requires
 seal-doubles-requires c κs = let w = good (c .before .before .before) (c .before .before .if1 .taken) in (w .range, w .plain, w .masks, w .noise, w .keys, w .mask, w .body)
-
-same-length : tie.Need-same-length
-same-length c = search needs
-
-same-length-2 : tie.Need-same-length-2
-same-length-2 c = search needs
 
 returns : tie.Need-returns
 returns c =
@@ -39,10 +30,4 @@ returns-2 c =
 pub encrypt-f64-spec : {M : Type 1} → statement M
 encrypt-f64-spec =
     tie.close
-    (tie.spec
-    encrypt-number-requires
-    seal-doubles-requires
-    same-length
-    same-length-2
-    returns
-    returns-2)
+    (tie.spec (λ c κs. search needs) seal-doubles-requires (λ c. search needs) (λ c. search needs) returns returns-2)

@@ -12,9 +12,6 @@ use Rattle.trlwe.specs.Encrypt.{encryptNumber}
 use Rattle.trlwe.proofs.encrypt_number.Statement.{statement}
 use Rattle.trlwe.proofs.encrypt_number.Tie as tie
 
-sizes-of-requires : tie.Need-sizes-of-requires
-sizes-of-requires c κs = search needs
-
 returns : tie.Need-returns
 unfolding encryptNumber
 returns c =
@@ -75,9 +72,6 @@ returns-7 c =
     let s = size-passed (a .p) e z in
     simp (eq-eqb (paramsNumber (a .p)) 0 (range-passed (a .p) e z), eq-eqb (a .plain) (size (a .p)) (c .before .before .before .before .before .before .before .before .before .before .if2 .left ∙ s), eq-eqb (a .masks) (size (a .p)) (c .before .before .before .before .before .before .before .before .if3 .left ∙ s), eq-eqb (a .noise) (size (a .p)) (c .before .before .before .before .before .before .if4 .left ∙ s), eq-eqb (length (now (a .key))) (size (a .p)) (c .before .before .before .before .if5 .left ∙ s), eq-eqb (a .la) (size (a .p)) (c .before .before .if6 .left ∙ s), ne-eqb (a .lb) (size (a .p)) (λ q. c .if7 .taken (q ∙ sym s)))
 
-key-number-requires : tie.Need-key-number-requires
-key-number-requires c κs = search needs
-
 returns-8 : tie.Need-returns-8
 unfolding encryptNumber
 returns-8 c =
@@ -88,4 +82,5 @@ returns-8 c =
     c .key-number .ensures ∙ sym (simp (eq-eqb (paramsNumber (a .p)) 0 (range-passed (a .p) e z), eq-eqb (a .plain) (size (a .p)) (c .before .before .before .before .before .before .before .before .before .before .before .if2 .left ∙ s), eq-eqb (a .masks) (size (a .p)) (c .before .before .before .before .before .before .before .before .before .if3 .left ∙ s), eq-eqb (a .noise) (size (a .p)) (c .before .before .before .before .before .before .before .if4 .left ∙ s), eq-eqb (length (now (a .key))) (size (a .p)) (c .before .before .before .before .before .if5 .left ∙ s), eq-eqb (a .la) (size (a .p)) (c .before .before .before .if6 .left ∙ s), eq-eqb (a .lb) (size (a .p)) (c .before .if7 .left ∙ s)))
 
 pub encrypt-number-spec : {M : Type 1} → statement M
-encrypt-number-spec = tie.close (tie.spec sizes-of-requires returns returns-2 returns-3 returns-4 returns-5 returns-6 returns-7 key-number-requires returns-8)
+encrypt-number-spec = tie.close
+    (tie.spec (λ c κs. search needs) returns returns-2 returns-3 returns-4 returns-5 returns-6 returns-7 (λ c κs. search needs) returns-8)

@@ -13,9 +13,6 @@ use Rattle.trlwe.specs.Extract.{extractNumber}
 use Rattle.trlwe.proofs.extract_number.Statement.{statement}
 use Rattle.trlwe.proofs.extract_number.Tie as tie
 
-sizes-of-requires : tie.Need-sizes-of-requires
-sizes-of-requires c κs = search needs
-
 returns : tie.Need-returns
 unfolding extractNumber
 returns c =
@@ -73,4 +70,5 @@ returns-6 c =
     simp (eq-eqb (paramsNumber (a .p)) 0 (range-passed (a .p) e z), eq-eqb (a .la) (size (a .p)) (c .before .before .before .before .before .before .if2 .left ∙ s), eq-eqb (a .lb) (size (a .p)) (c .before .before .before .before .if3 .left ∙ s), eq-eqb (a .lo) (size (a .p) + 1) (c .before .before .if4 .left ∙ l), lt-ltb (a .k) (size (a .p)) (omega arith))
 
 pub extract-number-spec : {M : Type 1} → statement M
-extract-number-spec = tie.close (tie.spec sizes-of-requires returns returns-2 returns-3 returns-4 returns-5 returns-6)
+extract-number-spec = tie.close
+    (tie.spec (λ c κs. search needs) returns returns-2 returns-3 returns-4 returns-5 returns-6)

@@ -7,29 +7,8 @@ use Rattle.ring.specs.Word.{Q, neg, comp}
 use Rattle.trlwe.proofs.extracted_at.Statement.{statement}
 use Rattle.trlwe.proofs.extracted_at.Tie as tie
 
-mul-result : tie.Need-mul-result
-mul-result c = search needs
-
-shared-slice-read-result : tie.Need-shared-slice-read-result
-shared-slice-read-result c = search needs
-
 returns : tie.Need-returns
 returns c = let g = c .before .before .before .args in rw (le-leb (g .i) (g .k) (omega arith))
-
-add-sub : tie.Need-add-sub
-add-sub c = search needs
-
-sub-sub : tie.Need-sub-sub
-sub-sub c = search needs
-
-mul-sub : tie.Need-mul-sub
-mul-sub c = search needs
-
-shared-slice-read-sub : tie.Need-shared-slice-read-sub
-shared-slice-read-sub c = search needs
-
-sub-requires : tie.Need-sub-requires
-sub-requires c κs = search needs
 
 returns-2 : tie.Need-returns-2
 unfolding comp neg Q
@@ -41,13 +20,5 @@ returns-2 c =
 pub extracted-at-spec : {M : Type 1} → statement M
 extracted-at-spec =
     tie.close
-    (tie.spec
-    mul-result
-    shared-slice-read-result
-    returns
-    add-sub
-    sub-sub
-    mul-sub
-    shared-slice-read-sub
-    sub-requires
-    returns-2)
+    (tie.spec (λ c. search needs) (λ c. search needs) returns (λ c. search needs) (λ c. search needs) (λ c. search needs) (λ c. search needs)
+    (λ c κs. search needs) returns-2)

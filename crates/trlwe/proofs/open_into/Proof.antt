@@ -27,13 +27,7 @@ open-on-requires c κs =
     let r = size-to (c .before .before .before .before .before .before .args .p) (w .0) in
     (w .0, w .1, w .2, w .3, scratch (length (now (c .before .before .before .before .before .before .args .out))) (omega arith) ∙ w .4, w .4)
 
-same-length : tie.Need-same-length
-same-length c = search needs
-
-returns : tie.Need-returns
-returns c = search needs
-
 pub open-into-spec : {M : Type 1} → statement M
 open-into-spec =
     tie.close
-    (tie.spec array-borrow-prefix-az slice-aggregate-open-on open-on-requires same-length returns)
+    (tie.spec array-borrow-prefix-az slice-aggregate-open-on open-on-requires (λ c. search needs) (λ c. search needs))

@@ -6,18 +6,6 @@ use Rattle.trlwe.proofs.Pairs.{opened}
 use Rattle.trlwe.proofs.open_on.Statement.{statement}
 use Rattle.trlwe.proofs.open_on.Tie as tie
 
-poly-mul-requires : tie.Need-poly-mul-requires
-poly-mul-requires c κs = search needs
-
-bits-of-requires : tie.Need-bits-of-requires
-bits-of-requires c κs = search needs
-
-same-length : tie.Need-same-length
-same-length c = search needs
-
-same-length-2 : tie.Need-same-length-2
-same-length-2 c = search needs
-
 returns : tie.Need-returns
 returns c =
     let g = c .before .before .before .before .before .before .before .before .before .before .before .before .before .before .args in
@@ -26,4 +14,5 @@ returns c =
 
 pub open-on-spec : {M : Type 1} → statement M
 open-on-spec =
-    tie.close (tie.spec poly-mul-requires bits-of-requires same-length same-length-2 returns)
+    tie.close
+    (tie.spec (λ c κs. search needs) (λ c κs. search needs) (λ c. search needs) (λ c. search needs) returns)

@@ -13,9 +13,6 @@ use Rattle.trlwe.proofs.Checks.{ExtractGood, extract-good}
 use Rattle.trlwe.proofs.sample_extract_index.Statement.{statement}
 use Rattle.trlwe.proofs.sample_extract_index.Tie as tie
 
-extract-number-requires : tie.Need-extract-number-requires
-extract-number-requires c κs = search needs
-
 -- where the number is 0 nothing is refused
 good : (c : tie.After-extract-number) → c .extract-number .result ≡ 0 → let g = c .before .before .before .before .args in ExtractGood (g .p) (length (now (g .a))) (length (now (g .b))) (g .k) (length (now (g .out)))
 good c e = extract-good _ _ _ _ _ (sym (c .extract-number .ensures) ∙ e)
@@ -25,9 +22,6 @@ extract-into-requires c κs =
     let g = c .before .before .before .before .before .before .args in
     let w = good (c .before .before) (c .before .if1 .taken) in
     omega arith
-
-same-length : tie.Need-same-length
-same-length c = search needs
 
 returns : tie.Need-returns
 returns c =
@@ -42,4 +36,4 @@ returns-2 c = (ap answer (c .before .extract-number .ensures), kept _ _ _ (λ e.
 pub sample-extract-index-spec : {M : Type 1} → statement M
 sample-extract-index-spec =
     tie.close
-    (tie.spec extract-number-requires extract-into-requires same-length returns returns-2)
+    (tie.spec (λ c κs. search needs) extract-into-requires (λ c. search needs) returns returns-2)

@@ -6,21 +6,6 @@ use Rattle.trlwe.proofs.Pairs.{sealed}
 use Rattle.trlwe.proofs.seal.Statement.{statement}
 use Rattle.trlwe.proofs.seal.Tie as tie
 
-copy-into-requires : tie.Need-copy-into-requires
-copy-into-requires c κs = search needs
-
-add-into-requires : tie.Need-add-into-requires
-add-into-requires c κs = search needs
-
-poly-mul-add-requires : tie.Need-poly-mul-add-requires
-poly-mul-add-requires c κs = search needs
-
-same-length : tie.Need-same-length
-same-length c = search needs
-
-same-length-2 : tie.Need-same-length-2
-same-length-2 c = search needs
-
 returns : tie.Need-returns
 returns c =
     let g = c .before .before .before .before .before .before .before .before .before .before .before .before .before .before .before .before .before .args in
@@ -30,10 +15,4 @@ returns c =
 pub seal-spec : {M : Type 1} → statement M
 seal-spec =
     tie.close
-    (tie.spec
-    copy-into-requires
-    add-into-requires
-    poly-mul-add-requires
-    same-length
-    same-length-2
-    returns)
+    (tie.spec (λ c κs. search needs) (λ c κs. search needs) (λ c κs. search needs) (λ c. search needs) (λ c. search needs) returns)

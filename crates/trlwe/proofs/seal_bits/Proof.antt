@@ -10,18 +10,6 @@ use Rattle.trlwe.specs.Encrypt.{freshBody}
 use Rattle.trlwe.proofs.seal_bits.Statement.{statement}
 use Rattle.trlwe.proofs.seal_bits.Tie as tie
 
-bits-into-requires : tie.Need-bits-into-requires
-bits-into-requires c κs = search needs
-
-seal-requires : tie.Need-seal-requires
-seal-requires c κs = search needs
-
-same-length : tie.Need-same-length
-same-length c = search needs
-
-same-length-2 : tie.Need-same-length-2
-same-length-2 c = search needs
-
 returns : tie.Need-returns
 returns c =
     let g = c .before .before .before .before .before .before .before .before .before .before .before .before .before .before .before .before .before .args in
@@ -29,4 +17,5 @@ returns c =
 
 pub seal-bits-spec : {M : Type 1} → statement M
 seal-bits-spec =
-    tie.close (tie.spec bits-into-requires seal-requires same-length same-length-2 returns)
+    tie.close
+    (tie.spec (λ c κs. search needs) (λ c κs. search needs) (λ c. search needs) (λ c. search needs) returns)

@@ -12,18 +12,6 @@ use Rattle.trlwe.specs.Encrypt.{freshBody}
 use Rattle.trlwe.proofs.seal_doubles.Statement.{statement}
 use Rattle.trlwe.proofs.seal_doubles.Tie as tie
 
-f64-to-torus-vec-requires : tie.Need-f64-to-torus-vec-requires
-f64-to-torus-vec-requires c κs = search needs
-
-seal-requires : tie.Need-seal-requires
-seal-requires c κs = search needs
-
-same-length : tie.Need-same-length
-same-length c = search needs
-
-same-length-2 : tie.Need-same-length-2
-same-length-2 c = search needs
-
 returns : tie.Need-returns
 returns c =
     let g = c .before .before .before .before .before .before .before .before .before .before .before .before .before .before .before .before .before .args in
@@ -35,4 +23,5 @@ returns c =
 
 pub seal-doubles-spec : {M : Type 1} → statement M
 seal-doubles-spec =
-    tie.close (tie.spec f64-to-torus-vec-requires seal-requires same-length same-length-2 returns)
+    tie.close
+    (tie.spec (λ c κs. search needs) (λ c κs. search needs) (λ c. search needs) (λ c. search needs) returns)

@@ -28,9 +28,6 @@ from-zero : (c : tie.Else2) → Cuts false (c .before .before .before .args .d) 
 unfolding ofBits
 from-zero c = nonnegative (c .before .before .before .args .d) (c .before .before .scaled-fraction .result) (c .before .before .scaled-fraction .ensures) (no (c .before .if1 .left)) (no (c .if2 .left))
 
-scaled-fraction-requires : tie.Need-scaled-fraction-requires
-scaled-fraction-requires c κs = search needs
-
 returns : tie.Need-returns
 returns c = undefined (c .before .before .args .d) (c .before .scaled-fraction .result) (c .before .scaled-fraction .ensures) (yes (c .if1 .taken))
 
@@ -55,9 +52,6 @@ cast-w : tie.Need-cast-w
 unfolding Q
 cast-w c = omega (arith, cut c .0)
 
-sub-requires : tie.Need-sub-requires
-sub-requires c κs = search needs
-
 truncating-f64-to-u64-requires-2 : tie.Need-truncating-f64-to-u64-requires-2
 unfolding ofBits
 truncating-f64-to-u64-requires-2 c κs = (from-zero c .0, from-zero c .1)
@@ -76,13 +70,5 @@ returns-3 c = omega (arith, cut-2 c .0, cut-2 c .1)
 pub f64-to-torus-spec : {M : Type 1} → statement M
 f64-to-torus-spec =
     tie.close
-    (tie.spec
-    scaled-fraction-requires
-    returns
-    truncating-f64-to-u64-requires
-    cast-w
-    sub-requires
-    truncating-f64-to-u64-requires-2
-    cast-v
-    returns-2
+    (tie.spec (λ c κs. search needs) returns truncating-f64-to-u64-requires cast-w (λ c κs. search needs) truncating-f64-to-u64-requires-2 cast-v returns-2
     returns-3)

@@ -8,14 +8,8 @@ use borrow.Author.Needs.{needs}
 use Rattle.utils.proofs.f64_to_torus_vec.Statement.{statement}
 use Rattle.utils.proofs.f64_to_torus_vec.Tie as tie
 
-vec-number-requires : tie.Need-vec-number-requires
-vec-number-requires c κs = search needs
-
 words-into-requires : tie.Need-words-into-requires
 words-into-requires c κs = vec-good _ _ (sym (c .before .before .vec-number .ensures) ∙ c .before .if1 .taken)
-
-same-length : tie.Need-same-length
-same-length c = search needs
 
 returns : tie.Need-returns
 returns c =
@@ -29,4 +23,5 @@ returns-2 c =
 
 pub f64-to-torus-vec-spec : {M : Type 1} → statement M
 f64-to-torus-vec-spec =
-    tie.close (tie.spec vec-number-requires words-into-requires same-length returns returns-2)
+    tie.close
+    (tie.spec (λ c κs. search needs) words-into-requires (λ c. search needs) returns returns-2)

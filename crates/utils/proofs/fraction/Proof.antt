@@ -16,4 +16,5 @@ unfolding ofBits
 returns c = is-fraction (c .args .d) (held c)
 
 pub fraction-spec : {M : Type 1} → statement M
-fraction-spec = tie.close (tie.spec returns)
+fraction-spec = tie.close
+    (tie.spec returns)

@@ -8,9 +8,6 @@ use Rattle.utils.proofs.Cut.{is-scaled}
 use Rattle.utils.proofs.scaled_fraction.Statement.{statement}
 use Rattle.utils.proofs.scaled_fraction.Tie as tie
 
-fraction-requires : tie.Need-fraction-requires
-fraction-requires c κs = search needs
-
 -- what is known of the `f64` that a call gave: the format holds it
 held : (c : tie.After-fraction) → T (fits binary64 (c .fraction .result))
 held c = subst T (sym (c .fraction .ok)) tt
@@ -20,4 +17,5 @@ unfolding ofBits
 returns c = is-scaled (c .before .args .d) (c .fraction .result) (held c) (c .fraction .ensures)
 
 pub scaled-fraction-spec : {M : Type 1} → statement M
-scaled-fraction-spec = tie.close (tie.spec fraction-requires returns)
+scaled-fraction-spec = tie.close
+    (tie.spec (λ c κs. search needs) returns)

@@ -24,12 +24,10 @@ quotient : (t : ℕ) → t < 2 ^ 32 → HasValue (div binary64 (ofInt binary64 (
 unfolding ofInt
 quotient t h = div-pow binary64 (ofInt binary64 (pos t)) false t 32 (lit≤ tt) (few t h) h (round-whole binary64 false t (few-le t h))
 
-int-to-float-result : tie.Need-int-to-float-result
-int-to-float-result c = search needs
-
 returns : tie.Need-returns
 unfolding ofBits Q
 returns c = quotient (c .before .args .t .0) (c .row-known .given .fits)
 
 pub torus-to-f64-spec : {M : Type 1} → statement M
-torus-to-f64-spec = tie.close (tie.spec int-to-float-result returns)
+torus-to-f64-spec = tie.close
+    (tie.spec (λ c. search needs) returns)

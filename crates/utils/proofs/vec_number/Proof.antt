@@ -11,4 +11,5 @@ returns-2 : tie.Need-returns-2
 returns-2 c = rw (eq-eqb (c .before .args .doubles) (c .before .args .places) (c .if1 .left))
 
 pub vec-number-spec : {M : Type 1} → statement M
-vec-number-spec = tie.close (tie.spec returns returns-2)
+vec-number-spec = tie.close
+    (tie.spec returns returns-2)

@@ -28,26 +28,8 @@ long c =
 loop-holds : tie.Need-loop-holds Inv-loop μ-loop
 loop-holds c = (omega arith, tab-none _ _)
 
-mul-f64-to-torus : tie.Need-mul-f64-to-torus Inv-loop μ-loop
-mul-f64-to-torus c = omega arith
-
-shared-slice-read-f64-to-torus : tie.Need-shared-slice-read-f64-to-torus Inv-loop μ-loop
-shared-slice-read-f64-to-torus c = omega arith
-
-f64-to-torus-requires : tie.Need-f64-to-torus-requires Inv-loop μ-loop
-f64-to-torus-requires c κs = search needs
-
-mul-out : tie.Need-mul-out Inv-loop μ-loop
-mul-out c = omega arith
-
 slice-write-out : tie.Need-slice-write-out Inv-loop μ-loop
 slice-write-out c = omega (arith, long (c .before .before .before))
-
-add-i : tie.Need-add-i Inv-loop μ-loop
-add-i c = omega arith
-
-loop-less : tie.Need-loop-less Inv-loop μ-loop
-loop-less c = omega arith
 
 loop-again : tie.Need-loop-again Inv-loop μ-loop
 loop-again c =
@@ -65,17 +47,5 @@ returns c =
 pub words-into-spec : {M : Type 1} → statement M
 words-into-spec =
     tie.close
-    (tie.spec
-    Inv-loop
-    μ-loop
-    loop-holds
-    mul-f64-to-torus
-    shared-slice-read-f64-to-torus
-    f64-to-torus-requires
-    mul-out
-    slice-write-out
-    add-i
-    loop-less
-    loop-again
-    same-length
-    returns)
+    (tie.spec Inv-loop μ-loop loop-holds (λ c. omega arith) (λ c. omega arith) (λ c κs. search needs) (λ c. omega arith) slice-write-out (λ c. omega arith)
+    (λ c. omega arith) loop-again same-length returns)

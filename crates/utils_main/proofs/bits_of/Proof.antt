@@ -15,14 +15,9 @@ no-nan nan s a c v = v
 no-nan (inf t) s a c v = tt
 no-nan (fin t m e) s a c v = tt
 
-torus-to-f64-requires : tie.Need-torus-to-f64-requires
-torus-to-f64-requires c κs = search needs
-
 float-to-bits-result : tie.Need-float-to-bits-result
 float-to-bits-result c = no-nan _ _ _ _ (c .torus-to-f64 .ensures)
 
-returns : tie.Need-returns
-returns c = search needs
-
 pub bits-of-spec : {M : Type 1} → statement M
-bits-of-spec = tie.close (tie.spec torus-to-f64-requires float-to-bits-result returns)
+bits-of-spec = tie.close
+    (tie.spec (λ c κs. search needs) float-to-bits-result (λ c. search needs))

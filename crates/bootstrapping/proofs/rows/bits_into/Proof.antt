@@ -59,9 +59,6 @@ out-fit c =
 add-rows : tie.Need-add-rows Inv-loop μ-loop
 add-rows c = let s = c .before .before .before .before .before .before in omega (arith, l-to (s .args .p) (s .pre .0))
 
-cast-rows : tie.Need-cast-rows Inv-loop μ-loop
-cast-rows c = search needs
-
 mul-words : tie.Need-mul-words Inv-loop μ-loop
 mul-words c = let s = c .before .before .before .before .before .before in omega (arith, draws-small (s .args .p) (length (s .args .key-lv1 .now)) (s .pre .2) (s .pre .0))
 
@@ -87,20 +84,8 @@ mul-at c = omega (arith, out-fit c)
 add-end : tie.Need-add-end Inv-loop μ-loop
 add-end c = omega (arith, out-fit c)
 
-mul-rows-into : tie.Need-mul-rows-into Inv-loop μ-loop
-mul-rows-into c = omega arith
-
-shared-slice-read-rows-into : tie.Need-shared-slice-read-rows-into Inv-loop μ-loop
-shared-slice-read-rows-into c = omega arith
-
 mul-rows-into-2 : tie.Need-mul-rows-into-2 Inv-loop μ-loop
 mul-rows-into-2 c = omega (arith, masks-fit (c .before))
-
-sub-rows-into : tie.Need-sub-rows-into Inv-loop μ-loop
-sub-rows-into c = omega arith
-
-part-rows-into-start : tie.Need-part-rows-into-start Inv-loop μ-loop
-part-rows-into-start c = omega arith
 
 part-rows-into-end : tie.Need-part-rows-into-end Inv-loop μ-loop
 part-rows-into-end c = omega (arith, masks-fit (c .before))
@@ -108,23 +93,11 @@ part-rows-into-end c = omega (arith, masks-fit (c .before))
 mul-rows-into-3 : tie.Need-mul-rows-into-3 Inv-loop μ-loop
 mul-rows-into-3 c = omega (arith, noise-fit (c .before .before))
 
-sub-rows-into-2 : tie.Need-sub-rows-into-2 Inv-loop μ-loop
-sub-rows-into-2 c = omega arith
-
-part-rows-into-start-2 : tie.Need-part-rows-into-start-2 Inv-loop μ-loop
-part-rows-into-start-2 c = omega arith
-
 part-rows-into-end-2 : tie.Need-part-rows-into-end-2 Inv-loop μ-loop
 part-rows-into-end-2 c = omega (arith, noise-fit (c .before .before))
 
 mul-rows-into-4 : tie.Need-mul-rows-into-4 Inv-loop μ-loop
 mul-rows-into-4 c = omega (arith, out-fit (c .before .before .before))
-
-sub-rows-into-3 : tie.Need-sub-rows-into-3 Inv-loop μ-loop
-sub-rows-into-3 c = omega arith
-
-part-rows-into-start-3 : tie.Need-part-rows-into-start-3 Inv-loop μ-loop
-part-rows-into-start-3 c = omega arith
 
 part-rows-into-end-3 : tie.Need-part-rows-into-end-3 Inv-loop μ-loop
 part-rows-into-end-3 c = omega (arith, out-fit (c .before .before .before))
@@ -176,35 +149,6 @@ returns c =
 pub bits-into-spec : {M : Type 1} → statement M
 bits-into-spec =
     tie.close
-    (tie.spec
-    Inv-loop
-    μ-loop
-    add-rows
-    cast-rows
-    mul-words
-    add-width
-    loop-holds
-    mul-from
-    add-to
-    mul-at
-    add-end
-    mul-rows-into
-    shared-slice-read-rows-into
-    mul-rows-into-2
-    sub-rows-into
-    part-rows-into-start
-    part-rows-into-end
-    mul-rows-into-3
-    sub-rows-into-2
-    part-rows-into-start-2
-    part-rows-into-end-2
-    mul-rows-into-4
-    sub-rows-into-3
-    part-rows-into-start-3
-    part-rows-into-end-3
-    rows-into-requires
-    add-i
-    loop-less
-    loop-again
-    same-length
-    returns)
+    (tie.spec Inv-loop μ-loop add-rows (λ c. search needs) mul-words add-width loop-holds mul-from add-to mul-at add-end (λ c. omega arith) (λ c. omega arith)
+    mul-rows-into-2 (λ c. omega arith) (λ c. omega arith) part-rows-into-end mul-rows-into-3 (λ c. omega arith) (λ c. omega arith) part-rows-into-end-2
+    mul-rows-into-4 (λ c. omega arith) (λ c. omega arith) part-rows-into-end-3 rows-into-requires add-i loop-less loop-again same-length returns)

@@ -9,12 +9,6 @@ use Rattle.bootstrapping.proofs.rows.body_into.Tie as tie
 put-requires : tie.Need-put-requires
 put-requires c κs = let h = c .before .before .before .before .before .pre in omega (arith, h .1, h .2, h .4)
 
-poly-mul-add-requires : tie.Need-poly-mul-add-requires
-poly-mul-add-requires c κs = tt
-
-same-length : tie.Need-same-length
-same-length c = search needs
-
 returns : tie.Need-returns
 returns c =
     let g = c .before .before .before .before .before .before .before .before .before .before .before .before .args in
@@ -22,4 +16,5 @@ returns c =
     body-made (g .p) (h .0) (g .c) (g .masks .now) (g .noise .now) (g .key .now) (g .out .now) (h .1) (h .3) (h .4) (c .before .before .before .before .before .before .put .ensures) (c .before .before .poly-mul-add .ensures .1)
 
 pub body-into-spec : {M : Type 1} → statement M
-body-into-spec = tie.close (tie.spec put-requires poly-mul-add-requires same-length returns)
+body-into-spec = tie.close
+    (tie.spec put-requires (λ c κs. tt) (λ c. search needs) returns)

@@ -21,4 +21,5 @@ returns-2 : tie.Need-returns-2
 returns-2 c = let g = c .before .before .before .before .args in c .weighted .ensures ∙ body-high (g .p) (g .m) (g .r) (omega arith)
 
 pub body-message-spec : {M : Type 1} → statement M
-body-message-spec = tie.close (tie.spec returns weighted-requires returns-2)
+body-message-spec = tie.close
+    (tie.spec returns weighted-requires returns-2)

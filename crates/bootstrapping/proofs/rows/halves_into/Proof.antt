@@ -40,15 +40,6 @@ slice-aggregate-put c = sym (half (c .before .before .before .before .before))
 put-requires : tie.Need-put-requires
 put-requires c κs = sym (half (c .before .before .before .before .before))
 
-mul-body-into : tie.Need-mul-body-into
-mul-body-into c = search needs
-
-sub-body-into : tie.Need-sub-body-into
-sub-body-into c = search needs
-
-part-body-into-start : tie.Need-part-body-into-start
-part-body-into-start c = search needs
-
 part-body-into-end : tie.Need-part-body-into-end
 part-body-into-end c = let s = c .before .before .before .before .before .before .before .before in omega (arith, c .before .out .given, two s)
 
@@ -57,9 +48,6 @@ body-into-requires c κs =
     let s = c .before .before .before .before .before .before .before .before .before in
     let h = s .pre in
     (h .0, h .1, h .2, h .3, back-half (length (s .args .masks .now)) (s .args .out .now) (c .before .before .before .put .last .1 .1 .0) (front (c .before .before .before)) (two s) ∙ h .1)
-
-same-length : tie.Need-same-length
-same-length c = search needs
 
 returns : tie.Need-returns
 returns c =
@@ -70,15 +58,5 @@ returns c =
 pub halves-into-spec : {M : Type 1} → statement M
 halves-into-spec =
     tie.close
-    (tie.spec
-    add-end
-    slice-relend-prefix-put
-    slice-aggregate-put
-    put-requires
-    mul-body-into
-    sub-body-into
-    part-body-into-start
-    part-body-into-end
-    body-into-requires
-    same-length
-    returns)
+    (tie.spec add-end slice-relend-prefix-put slice-aggregate-put put-requires (λ c. search needs) (λ c. search needs) (λ c. search needs) part-body-into-end
+    body-into-requires (λ c. search needs) returns)

@@ -17,4 +17,5 @@ returns-2 : tie.Need-returns-2
 returns-2 c = let g = c .before .before .args in mask-high (g .p) (g .m) (g .r) (omega arith)
 
 pub mask-message-spec : {M : Type 1} → statement M
-mask-message-spec = tie.close (tie.spec weighted-requires returns returns-2)
+mask-message-spec = tie.close
+    (tie.spec weighted-requires returns returns-2)

@@ -14,9 +14,6 @@ body-message-requires c κs = let h = c .before .before .before .before .before 
 halves-into-requires : tie.Need-halves-into-requires
 halves-into-requires c κs = let h = c .before .before .before .before .before .before .before .pre in (h .0, h .2, h .3, h .4, h .5)
 
-same-length : tie.Need-same-length
-same-length c = search needs
-
 returns : tie.Need-returns
 returns c =
     let g = c .before .before .before .before .before .before .before .before .before .before .args in
@@ -25,4 +22,4 @@ returns c =
 pub row-into-spec : {M : Type 1} → statement M
 row-into-spec =
     tie.close
-    (tie.spec mask-message-requires body-message-requires halves-into-requires same-length returns)
+    (tie.spec mask-message-requires body-message-requires halves-into-requires (λ c. search needs) returns)

@@ -53,9 +53,6 @@ loop-holds c =
     let e = joined-none (length (g .key .now) + length (g .key .now)) (torusRow (g .p) (g .m) (g .key .now) (g .masks .now) (g .noise .now)) (g .out .now) in
     (omega arith, refl, e .0, e .1)
 
-cast-row : tie.Need-cast-row Inv-loop μ-loop
-cast-row c = search needs
-
 mul-from : tie.Need-mul-from Inv-loop μ-loop
 mul-from c = omega (arith, masks-fit c)
 
@@ -71,35 +68,17 @@ add-end c = omega (arith, out-fit c)
 mul-row-into : tie.Need-mul-row-into Inv-loop μ-loop
 mul-row-into c = omega (arith, masks-fit c)
 
-sub-row-into : tie.Need-sub-row-into Inv-loop μ-loop
-sub-row-into c = omega arith
-
-part-row-into-start : tie.Need-part-row-into-start Inv-loop μ-loop
-part-row-into-start c = omega arith
-
 part-row-into-end : tie.Need-part-row-into-end Inv-loop μ-loop
 part-row-into-end c = omega (arith, masks-fit c)
 
 mul-row-into-2 : tie.Need-mul-row-into-2 Inv-loop μ-loop
 mul-row-into-2 c = omega (arith, noise-fit (c .before))
 
-sub-row-into-2 : tie.Need-sub-row-into-2 Inv-loop μ-loop
-sub-row-into-2 c = omega arith
-
-part-row-into-start-2 : tie.Need-part-row-into-start-2 Inv-loop μ-loop
-part-row-into-start-2 c = omega arith
-
 part-row-into-end-2 : tie.Need-part-row-into-end-2 Inv-loop μ-loop
 part-row-into-end-2 c = omega (arith, noise-fit (c .before))
 
 mul-row-into-3 : tie.Need-mul-row-into-3 Inv-loop μ-loop
 mul-row-into-3 c = omega (arith, out-fit (c .before .before))
-
-sub-row-into-3 : tie.Need-sub-row-into-3 Inv-loop μ-loop
-sub-row-into-3 c = omega arith
-
-part-row-into-start-3 : tie.Need-part-row-into-start-3 Inv-loop μ-loop
-part-row-into-start-3 c = omega arith
 
 part-row-into-end-3 : tie.Need-part-row-into-end-3 Inv-loop μ-loop
 part-row-into-end-3 c = omega (arith, out-fit (c .before .before))
@@ -150,32 +129,6 @@ returns c =
 pub rows-into-spec : {M : Type 1} → statement M
 rows-into-spec =
     tie.close
-    (tie.spec
-    Inv-loop
-    μ-loop
-    add-width
-    add-rows
-    loop-holds
-    cast-row
-    mul-from
-    add-to
-    mul-at
-    add-end
-    mul-row-into
-    sub-row-into
-    part-row-into-start
-    part-row-into-end
-    mul-row-into-2
-    sub-row-into-2
-    part-row-into-start-2
-    part-row-into-end-2
-    mul-row-into-3
-    sub-row-into-3
-    part-row-into-start-3
-    part-row-into-end-3
-    row-into-requires
-    add-r
-    loop-less
-    loop-again
-    same-length
-    returns)
+    (tie.spec Inv-loop μ-loop add-width add-rows loop-holds (λ c. search needs) mul-from add-to mul-at add-end mul-row-into (λ c. omega arith)
+    (λ c. omega arith) part-row-into-end mul-row-into-2 (λ c. omega arith) (λ c. omega arith) part-row-into-end-2 mul-row-into-3 (λ c. omega arith)
+    (λ c. omega arith) part-row-into-end-3 row-into-requires add-r loop-less loop-again same-length returns)

@@ -8,21 +8,6 @@ use Rattle.ring.proofs.Words.{mul-mod-r}
 use Rattle.bootstrapping.proofs.rows.weighted.Statement.{statement}
 use Rattle.bootstrapping.proofs.rows.weighted.Tie as tie
 
-add-power : tie.Need-add-power
-add-power c = search needs
-
-mul-power : tie.Need-mul-power
-mul-power c = search needs
-
-sub-power : tie.Need-sub-power
-sub-power c = search needs
-
-power-requires : tie.Need-power-requires
-power-requires c κs = search needs
-
-mul-requires : tie.Need-mul-requires
-mul-requires c κs = search needs
-
 returns : tie.Need-returns
 returns c =
     let g = c .before .before .args in
@@ -30,4 +15,5 @@ returns c =
 
 pub weighted-spec : {M : Type 1} → statement M
 weighted-spec =
-    tie.close (tie.spec add-power mul-power sub-power power-requires mul-requires returns)
+    tie.close
+    (tie.spec (λ c. search needs) (λ c. search needs) (λ c. search needs) (λ c κs. search needs) (λ c κs. search needs) returns)

@@ -8,17 +8,11 @@ use Rattle.circuit.specs.Plain.{worked, workAnswer}
 use Rattle.circuit.proofs.cost.work.Statement.{statement}
 use Rattle.circuit.proofs.cost.work.Tie as tie
 
-check-requires : tie.Need-check-requires
-check-requires c κs = search needs
-
 returns : tie.Need-returns
 unfolding workAnswer
 returns c =
     let e = c .before .before .check .ensures in
     ap₂ worked e (kept _ _ _ (λ z. c .if1 .taken (ap (λ (r : Answer). r .number) e ∙ z)))
-
-total-requires : tie.Need-total-requires
-total-requires c κs = search needs
 
 returns-2 : tie.Need-returns-2
 unfolding workAnswer
@@ -27,4 +21,5 @@ returns-2 c =
     ap₂ worked e (done _ _ _ (sym (ap (λ (r : Answer). r .number) e) ∙ c .before .if1 .left) (c .total .ensures))
 
 pub work-spec : {M : Type 1} → statement M
-work-spec = tie.close (tie.spec check-requires returns total-requires returns-2)
+work-spec = tie.close
+    (tie.spec (λ c κs. search needs) returns (λ c κs. search needs) returns-2)

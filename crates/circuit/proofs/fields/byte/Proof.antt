@@ -9,12 +9,6 @@ use borrow.Author.Needs.{needs}
 use Rattle.circuit.proofs.fields.byte.Statement.{statement}
 use Rattle.circuit.proofs.fields.byte.Tie as tie
 
-shared-slice-read-wide : tie.Need-shared-slice-read-wide
-shared-slice-read-wide c = search needs
-
-wide-requires : tie.Need-wide-requires
-wide-requires c κs = search needs
-
 returns : tie.Need-returns
 returns c = (c .wide .ensures, omega (arith, c .before .before .before .shared-slice-known .given (c .before .before .before .before .args .i)))
 
@@ -22,4 +16,5 @@ returns-2 : tie.Need-returns-2
 returns-2 c = (sym (List·getD-eq-default (now (c .before .before .args .bytes)) 0 (c .if1 .left)), lit< tt)
 
 pub byte-spec : {M : Type 1} → statement M
-byte-spec = tie.close (tie.spec shared-slice-read-wide wide-requires returns returns-2)
+byte-spec = tie.close
+    (tie.spec (λ c. search needs) (λ c κs. search needs) returns returns-2)

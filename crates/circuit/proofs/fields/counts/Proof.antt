@@ -5,22 +5,11 @@ use Rattle.circuit.specs.Form.{countsOf}
 use Rattle.circuit.proofs.fields.counts.Statement.{statement}
 use Rattle.circuit.proofs.fields.counts.Tie as tie
 
-field-requires : tie.Need-field-requires
-field-requires c κs = search needs
-
-field-requires-2 : tie.Need-field-requires-2
-field-requires-2 c κs = search needs
-
-field-requires-3 : tie.Need-field-requires-3
-field-requires-3 c κs = search needs
-
-field-requires-4 : tie.Need-field-requires-4
-field-requires-4 c κs = search needs
-
 returns : tie.Need-returns
 unfolding countsOf
 returns c = rw (c .before .before .before .field .ensures .0, c .before .before .field2 .ensures .0, c .before .field3 .ensures .0, c .field4 .ensures .0)
 
 pub counts-spec : {M : Type 1} → statement M
 counts-spec =
-    tie.close (tie.spec field-requires field-requires-2 field-requires-3 field-requires-4 returns)
+    tie.close
+    (tie.spec (λ c κs. search needs) (λ c κs. search needs) (λ c κs. search needs) (λ c κs. search needs) returns)

@@ -9,18 +9,6 @@ use Rattle.circuit.specs.Form.{gates}
 use Rattle.circuit.proofs.fields.kind_at.Statement.{statement}
 use Rattle.circuit.proofs.fields.kind_at.Tie as tie
 
-field-requires : tie.Need-field-requires
-field-requires c κs = search needs
-
-mul-byte : tie.Need-mul-byte
-mul-byte c = search needs
-
-add-byte : tie.Need-add-byte
-add-byte c = search needs
-
-byte-requires : tie.Need-byte-requires
-byte-requires c κs = search needs
-
 returns : tie.Need-returns
 returns c = let a = c .before .before .before .before .args in rw (lt-ltb (a .g) (gates (now (a .bytes))) (omega arith)) (c .byte .ensures .0)
 
@@ -29,4 +17,5 @@ returns-2 c = let a = c .before .before .before .args in rw (le-ltb (a .g) (gate
 
 pub kind-at-spec : {M : Type 1} → statement M
 kind-at-spec =
-    tie.close (tie.spec field-requires mul-byte add-byte byte-requires returns returns-2)
+    tie.close
+    (tie.spec (λ c κs. search needs) (λ c. search needs) (λ c. search needs) (λ c κs. search needs) returns returns-2)

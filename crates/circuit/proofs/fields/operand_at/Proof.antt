@@ -8,27 +8,6 @@ use Rattle.circuit.specs.Form.{gates}
 use Rattle.circuit.proofs.fields.operand_at.Statement.{statement}
 use Rattle.circuit.proofs.fields.operand_at.Tie as tie
 
-field-requires : tie.Need-field-requires
-field-requires c κs = search needs
-
-mul-field : tie.Need-mul-field
-mul-field c = search needs
-
-add-field : tie.Need-add-field
-add-field c = search needs
-
-add-field-2 : tie.Need-add-field-2
-add-field-2 c = search needs
-
-mul-field-2 : tie.Need-mul-field-2
-mul-field-2 c = search needs
-
-add-field-3 : tie.Need-add-field-3
-add-field-3 c = search needs
-
-field-requires-2 : tie.Need-field-requires-2
-field-requires-2 c κs = search needs
-
 returns : tie.Need-returns
 returns c = let a = c .before .before .before .before .before .args in rw (lt-ltb (a .g) (gates (now (a .bytes))) (omega arith), lt-ltb (a .x) 3 (omega arith)) (c .field2 .ensures .0)
 
@@ -41,14 +20,5 @@ returns-3 c = let a = c .before .before .before .args in rw (le-ltb (a .g) (gate
 pub operand-at-spec : {M : Type 1} → statement M
 operand-at-spec =
     tie.close
-    (tie.spec
-    field-requires
-    mul-field
-    add-field
-    add-field-2
-    mul-field-2
-    add-field-3
-    field-requires-2
-    returns
-    returns-2
-    returns-3)
+    (tie.spec (λ c κs. search needs) (λ c. search needs) (λ c. search needs) (λ c. search needs) (λ c. search needs) (λ c. search needs) (λ c κs. search needs)
+    returns returns-2 returns-3)

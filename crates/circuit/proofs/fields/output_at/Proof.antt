@@ -10,27 +10,6 @@ use Rattle.circuit.specs.Form.{gates, outputs, fieldAt}
 use Rattle.circuit.proofs.fields.output_at.Statement.{statement}
 use Rattle.circuit.proofs.fields.output_at.Tie as tie
 
-field-requires : tie.Need-field-requires
-field-requires c κs = search needs
-
-field-requires-2 : tie.Need-field-requires-2
-field-requires-2 c κs = search needs
-
-mul-field : tie.Need-mul-field
-mul-field c = search needs
-
-add-field : tie.Need-add-field
-add-field c = search needs
-
-mul-field-2 : tie.Need-mul-field-2
-mul-field-2 c = search needs
-
-add-field-2 : tie.Need-add-field-2
-add-field-2 c = search needs
-
-field-requires-3 : tie.Need-field-requires-3
-field-requires-3 c κs = search needs
-
 returns : tie.Need-returns
 returns c = let a = c .before .before .before .before .before .args in rw (lt-ltb (a .o) (outputs (now (a .bytes))) (omega arith)) (c .field3 .ensures .0 ∙ ap (λ (n : ℕ). fieldAt (now (a .bytes)) (11 + 8 * n + 2 * a .o)) (c .before .field2 .ensures .0))
 
@@ -40,13 +19,5 @@ returns-2 c = let a = c .before .before .before .args in rw (le-ltb (a .o) (outp
 pub output-at-spec : {M : Type 1} → statement M
 output-at-spec =
     tie.close
-    (tie.spec
-    field-requires
-    field-requires-2
-    mul-field
-    add-field
-    mul-field-2
-    add-field-2
-    field-requires-3
-    returns
-    returns-2)
+    (tie.spec (λ c κs. search needs) (λ c κs. search needs) (λ c. search needs) (λ c. search needs) (λ c. search needs) (λ c. search needs)
+    (λ c κs. search needs) returns returns-2)

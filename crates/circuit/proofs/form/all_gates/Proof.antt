@@ -39,9 +39,6 @@ field-requires-2 c κs = lit< tt
 loop-holds : tie.Need-loop-holds Inv-loop μ-loop
 loop-holds c = (omega arith, first-start _ _)
 
-add-own : tie.Need-add-own Inv-loop μ-loop
-add-own c = omega arith
-
 gate-fits-requires : tie.Need-gate-fits-requires Inv-loop μ-loop
 gate-fits-requires c κs = lies c
 
@@ -57,12 +54,6 @@ returns c =
     ∙ sym (first-stop (gateAnswer b) g n (omega arith) (λ z. true≢false (sym (eq-eqb (gateAnswer b g .number) 0 z) ∙ sym (c .before .before .gate-fits .ensures) ∙ not-true _ (c .before .if1 .taken))))
     ∙ sym (c .before .before .before .before .loop .inv .1)
     ∙ ap (first (gateAnswer b) 0) (c .before .before .before .before .before .field2 .ensures .0)
-
-add-g : tie.Need-add-g Inv-loop μ-loop
-add-g c = omega arith
-
-loop-less : tie.Need-loop-less Inv-loop μ-loop
-loop-less c = omega arith
 
 loop-again : tie.Need-loop-again Inv-loop μ-loop
 loop-again c =
@@ -82,17 +73,5 @@ returns-2 c =
 pub all-gates-spec : {M : Type 1} → statement M
 all-gates-spec =
     tie.close
-    (tie.spec
-    Inv-loop
-    μ-loop
-    field-requires
-    field-requires-2
-    loop-holds
-    add-own
-    gate-fits-requires
-    gate-requires
-    returns
-    add-g
-    loop-less
-    loop-again
-    returns-2)
+    (tie.spec Inv-loop μ-loop field-requires field-requires-2 loop-holds (λ c. omega arith) gate-fits-requires gate-requires returns (λ c. omega arith)
+    (λ c. omega arith) loop-again returns-2)

@@ -23,9 +23,6 @@ field-requires c κs = lit< tt
 loop-holds : tie.Need-loop-holds Inv-loop μ-loop
 loop-holds c = (omega arith, first-start _ _)
 
-output-requires : tie.Need-output-requires Inv-loop μ-loop
-output-requires c κs = omega arith
-
 returns : tie.Need-returns Inv-loop μ-loop
 returns c =
     let b = now (c .before .before .before .before .before .before .before .args .bytes) in
@@ -36,12 +33,6 @@ returns c =
     ∙ sym (first-stop (outputAnswer b) o n (omega arith) (λ z. c .if1 .taken (ap (λ (r : Answer). r .number) e ∙ z)))
     ∙ sym (c .before .before .before .before .loop .inv .1)
     ∙ ap (first (outputAnswer b) 0) (c .before .before .before .before .before .field .ensures .0)
-
-add-o : tie.Need-add-o Inv-loop μ-loop
-add-o c = omega arith
-
-loop-less : tie.Need-loop-less Inv-loop μ-loop
-loop-less c = omega arith
 
 loop-again : tie.Need-loop-again Inv-loop μ-loop
 loop-again c =
@@ -61,14 +52,4 @@ returns-2 c =
 pub all-outputs-spec : {M : Type 1} → statement M
 all-outputs-spec =
     tie.close
-    (tie.spec
-    Inv-loop
-    μ-loop
-    field-requires
-    loop-holds
-    output-requires
-    returns
-    add-o
-    loop-less
-    loop-again
-    returns-2)
+    (tie.spec Inv-loop μ-loop field-requires loop-holds (λ c κs. omega arith) returns (λ c. omega arith) (λ c. omega arith) loop-again returns-2)

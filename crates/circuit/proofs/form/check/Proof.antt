@@ -10,9 +10,6 @@ use Rattle.circuit.specs.Form.{answerOf}
 use Rattle.circuit.proofs.form.check.Statement.{statement}
 use Rattle.circuit.proofs.form.check.Tie as tie
 
-head-requires : tie.Need-head-requires
-head-requires c κs = search needs
-
 returns : tie.Need-returns
 unfolding answerOf
 returns c =
@@ -29,9 +26,6 @@ returns-2 c =
     let e = c .before .before .all-gates .ensures in
     done _ _ _ (sym (ap (λ (r : Answer). r .number) h) ∙ c .before .before .before .if1 .left) (e ∙ kept _ _ _ (λ z. c .if2 .taken (ap (λ (r : Answer). r .number) e ∙ z)))
 
-all-outputs-requires : tie.Need-all-outputs-requires
-all-outputs-requires c κs = search needs
-
 returns-3 : tie.Need-returns-3
 unfolding answerOf
 returns-3 c =
@@ -42,4 +36,4 @@ returns-3 c =
 pub check-spec : {M : Type 1} → statement M
 check-spec =
     tie.close
-    (tie.spec head-requires returns all-gates-requires returns-2 all-outputs-requires returns-3)
+    (tie.spec (λ c κs. search needs) returns all-gates-requires returns-2 (λ c κs. search needs) returns-3)

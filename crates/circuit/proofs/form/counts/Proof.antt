@@ -9,27 +9,6 @@ use Rattle.circuit.specs.Form.{countsAnswer, inputs, gates, outputs, out
 use Rattle.circuit.proofs.form.counts.Statement.{statement}
 use Rattle.circuit.proofs.form.counts.Tie as tie
 
-field-requires : tie.Need-field-requires
-field-requires c κs = search needs
-
-field-requires-2 : tie.Need-field-requires-2
-field-requires-2 c κs = search needs
-
-field-requires-3 : tie.Need-field-requires-3
-field-requires-3 c κs = search needs
-
-mul-whole : tie.Need-mul-whole
-mul-whole c = search needs
-
-add-whole : tie.Need-add-whole
-add-whole c = search needs
-
-mul-whole-2 : tie.Need-mul-whole-2
-mul-whole-2 c = search needs
-
-add-whole-2 : tie.Need-add-whole-2
-add-whole-2 c = search needs
-
 returns : tie.Need-returns
 unfolding countsAnswer
 returns c = let b = now (c .before .before .before .before .before .args .bytes) in simp (lt-leb (inputs b) 256 (omega arith))
@@ -57,17 +36,5 @@ returns-6 c = let b = now (c .before .before .before .before .before .before .be
 pub counts-spec : {M : Type 1} → statement M
 counts-spec =
     tie.close
-    (tie.spec
-    field-requires
-    field-requires-2
-    field-requires-3
-    mul-whole
-    add-whole
-    mul-whole-2
-    add-whole-2
-    returns
-    returns-2
-    returns-3
-    returns-4
-    returns-5
-    returns-6)
+    (tie.spec (λ c κs. search needs) (λ c κs. search needs) (λ c κs. search needs) (λ c. search needs) (λ c. search needs) (λ c. search needs)
+    (λ c. search needs) returns returns-2 returns-3 returns-4 returns-5 returns-6)

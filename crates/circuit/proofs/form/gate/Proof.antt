@@ -11,37 +11,13 @@ use borrow.Author.Needs.{needs}
 use Rattle.circuit.proofs.form.gate.Statement.{statement}
 use Rattle.circuit.proofs.form.gate.Tie as tie
 
-mul-at : tie.Need-mul-at
-mul-at c = search needs
-
-add-at : tie.Need-add-at
-add-at c = search needs
-
-cast-place : tie.Need-cast-place
-cast-place c = search needs
-
-byte-there-requires : tie.Need-byte-there-requires
-byte-there-requires c κs = search needs
-
 returns : tie.Need-returns
 unfolding gateAnswer
 returns c = let a = c .before .before .before .args in simp (lt-leb (kindAt (now (a .bytes)) (a .g)) 13 (omega arith))
 
-add-byte-there : tie.Need-add-byte-there
-add-byte-there c = search needs
-
-byte-there-requires-2 : tie.Need-byte-there-requires-2
-byte-there-requires-2 c κs = search needs
-
-add-t10 : tie.Need-add-t10
-add-t10 c = search needs
-
 returns-2 : tie.Need-returns-2
 unfolding gateAnswer
 returns-2 c = let a = c .before .before .before .before .before .args in simp (le-leb (kindAt (now (a .bytes)) (a .g)) 13 (omega arith), ne-eqb (at (now (a .bytes)) (gatePlace (a .g) + 1)) 0 (omega arith))
-
-gate-operands-requires : tie.Need-gate-operands-requires
-gate-operands-requires c κs = search needs
 
 returns-3 : tie.Need-returns-3
 unfolding gateAnswer
@@ -50,15 +26,5 @@ returns-3 c = let a = c .before .before .before .before .before .before .args in
 pub gate-spec : {M : Type 1} → statement M
 gate-spec =
     tie.close
-    (tie.spec
-    mul-at
-    add-at
-    cast-place
-    byte-there-requires
-    returns
-    add-byte-there
-    byte-there-requires-2
-    add-t10
-    returns-2
-    gate-operands-requires
-    returns-3)
+    (tie.spec (λ c. search needs) (λ c. search needs) (λ c. search needs) (λ c κs. search needs) returns (λ c. search needs) (λ c κs. search needs)
+    (λ c. search needs) returns-2 (λ c κs. search needs) returns-3)

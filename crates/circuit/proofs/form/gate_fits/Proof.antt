@@ -35,63 +35,21 @@ third c =
     let b = s .args .bytes .now in
     operand-fits b (s .args .g) 2 12 _ (c .before .before .before .before .before .before .before .before .before .before .before .byte-there .ensures .0) (third-needed (kindAt b (s .args .g)) (kind (c .before .before .before .before .before .before .before .before .before .before))) (s .pre .2) (omega arith) (c .before .field-there3 .ensures .0) (c .operand-bound3 .ensures)
 
-mul-at : tie.Need-mul-at
-mul-at c = search needs
-
-add-at : tie.Need-add-at
-add-at c = search needs
-
-byte-there-requires : tie.Need-byte-there-requires
-byte-there-requires c κs = search needs
-
 returns : tie.Need-returns
 unfolding gateAnswer
 returns c = let a = c .before .before .before .args in simp (lt-leb (kindAt (now (a .bytes)) (a .g)) 13 (omega arith))
-
-add-byte-there : tie.Need-add-byte-there
-add-byte-there c = search needs
-
-byte-there-requires-2 : tie.Need-byte-there-requires-2
-byte-there-requires-2 c κs = search needs
 
 returns-2 : tie.Need-returns-2
 unfolding gateAnswer
 returns-2 c = let a = c .before .before .before .before .before .args in simp (le-leb (kindAt (now (a .bytes)) (a .g)) 13 (kind (c .before .before)), ne-eqb (at (now (a .bytes)) (gatePlace (a .g) + 1)) 0 (omega arith))
 
-add-field-there : tie.Need-add-field-there
-add-field-there c = search needs
-
-field-there-requires : tie.Need-field-there-requires
-field-there-requires c κs = search needs
-
-operand-bound-requires : tie.Need-operand-bound-requires
-operand-bound-requires c κs = search needs
-
 returns-3 : tie.Need-returns-3
 unfolding gateAnswer operandsAnswer
 returns-3 c = let a = c .before .before .before .before .before .before .before .before .args in simp (le-leb (kindAt (now (a .bytes)) (a .g)) 13 (kind (c .before .before .before .before .before)), eq-eqb (at (now (a .bytes)) (gatePlace (a .g) + 1)) 0 (let e = c .before .before .before .before .byte-there2 .ensures .0 in let h = c .before .before .before .if2 .left in omega (arith, e, h)), first (c .before) ∙ le-ltb _ _ (c .if3 .taken))
 
-add-field-there-2 : tie.Need-add-field-there-2
-add-field-there-2 c = search needs
-
-field-there-requires-2 : tie.Need-field-there-requires-2
-field-there-requires-2 c κs = search needs
-
-operand-bound-requires-2 : tie.Need-operand-bound-requires-2
-operand-bound-requires-2 c κs = search needs
-
 returns-4 : tie.Need-returns-4
 unfolding gateAnswer operandsAnswer
 returns-4 c = let a = c .before .before .before .before .before .before .before .before .before .before .before .args in simp (le-leb (kindAt (now (a .bytes)) (a .g)) 13 (kind (c .before .before .before .before .before .before .before .before)), eq-eqb (at (now (a .bytes)) (gatePlace (a .g) + 1)) 0 (let e = c .before .before .before .before .before .before .before .byte-there2 .ensures .0 in let h = c .before .before .before .before .before .before .if2 .left in omega (arith, e, h)), first (c .before .before .before .before) ∙ lt-ltb _ _ (c .before .before .before .if3 .left), second (c .before) ∙ le-ltb _ _ (c .if4 .taken))
-
-add-field-there-3 : tie.Need-add-field-there-3
-add-field-there-3 c = search needs
-
-field-there-requires-3 : tie.Need-field-there-requires-3
-field-there-requires-3 c κs = search needs
-
-operand-bound-requires-3 : tie.Need-operand-bound-requires-3
-operand-bound-requires-3 c κs = search needs
 
 returns-5 : tie.Need-returns-5
 unfolding gateAnswer operandsAnswer
@@ -100,23 +58,6 @@ returns-5 c = let a = c .before .before .before .before .before .before .before 
 pub gate-fits-spec : {M : Type 1} → statement M
 gate-fits-spec =
     tie.close
-    (tie.spec
-    mul-at
-    add-at
-    byte-there-requires
-    returns
-    add-byte-there
-    byte-there-requires-2
-    returns-2
-    add-field-there
-    field-there-requires
-    operand-bound-requires
-    returns-3
-    add-field-there-2
-    field-there-requires-2
-    operand-bound-requires-2
-    returns-4
-    add-field-there-3
-    field-there-requires-3
-    operand-bound-requires-3
-    returns-5)
+    (tie.spec (λ c. search needs) (λ c. search needs) (λ c κs. search needs) returns (λ c. search needs) (λ c κs. search needs) returns-2 (λ c. search needs)
+    (λ c κs. search needs) (λ c κs. search needs) returns-3 (λ c. search needs) (λ c κs. search needs) (λ c κs. search needs) returns-4 (λ c. search needs)
+    (λ c κs. search needs) (λ c κs. search needs) returns-5)

@@ -38,61 +38,13 @@ third c =
     let s = c .before .before .before .before .before .before .before .before .before .before in
     as-good (s .args .bytes .now) (s .args .g) 2 _ (omega arith) (needed (c .before .before .before .before .before .before .before .before)) (s .pre .2) (c .before .field-there3 .ensures .0) (c .operand-good3 .ensures)
 
-mul-at : tie.Need-mul-at
-mul-at c = search needs
-
-add-at : tie.Need-add-at
-add-at c = search needs
-
-cast-place : tie.Need-cast-place
-cast-place c = search needs
-
-operands-requires : tie.Need-operands-requires
-operands-requires c κs = search needs
-
-add-field-there : tie.Need-add-field-there
-add-field-there c = search needs
-
-field-there-requires : tie.Need-field-there-requires
-field-there-requires c κs = search needs
-
-operand-good-requires : tie.Need-operand-good-requires
-operand-good-requires c κs = search needs
-
-add-t12 : tie.Need-add-t12
-add-t12 c = search needs
-
 returns : tie.Need-returns
 unfolding operandsAnswer
 returns c = rw (sym (first (c .before)) ∙ not-true _ (c .if1 .taken))
 
-add-field-there-2 : tie.Need-add-field-there-2
-add-field-there-2 c = search needs
-
-field-there-requires-2 : tie.Need-field-there-requires-2
-field-there-requires-2 c κs = search needs
-
-operand-good-requires-2 : tie.Need-operand-good-requires-2
-operand-good-requires-2 c κs = search needs
-
-add-t13 : tie.Need-add-t13
-add-t13 c = search needs
-
 returns-2 : tie.Need-returns-2
 unfolding operandsAnswer
 returns-2 c = rw (sym (first (c .before .before .before .before)) ∙ not-false _ (c .before .before .before .if1 .left), sym (second (c .before)) ∙ not-true _ (c .if2 .taken))
-
-add-field-there-3 : tie.Need-add-field-there-3
-add-field-there-3 c = search needs
-
-field-there-requires-3 : tie.Need-field-there-requires-3
-field-there-requires-3 c κs = search needs
-
-operand-good-requires-3 : tie.Need-operand-good-requires-3
-operand-good-requires-3 c κs = search needs
-
-add-t14 : tie.Need-add-t14
-add-t14 c = search needs
 
 returns-3 : tie.Need-returns-3
 unfolding operandsAnswer
@@ -105,24 +57,6 @@ returns-4 c = rw (sym (first (c .before .before .before .before .before .before 
 pub gate-operands-spec : {M : Type 1} → statement M
 gate-operands-spec =
     tie.close
-    (tie.spec
-    mul-at
-    add-at
-    cast-place
-    operands-requires
-    add-field-there
-    field-there-requires
-    operand-good-requires
-    add-t12
-    returns
-    add-field-there-2
-    field-there-requires-2
-    operand-good-requires-2
-    add-t13
-    returns-2
-    add-field-there-3
-    field-there-requires-3
-    operand-good-requires-3
-    add-t14
-    returns-3
-    returns-4)
+    (tie.spec (λ c. search needs) (λ c. search needs) (λ c. search needs) (λ c κs. search needs) (λ c. search needs) (λ c κs. search needs)
+    (λ c κs. search needs) (λ c. search needs) returns (λ c. search needs) (λ c κs. search needs) (λ c κs. search needs) (λ c. search needs) returns-2
+    (λ c. search needs) (λ c κs. search needs) (λ c κs. search needs) (λ c. search needs) returns-3 returns-4)

@@ -15,36 +15,21 @@ returns : tie.Need-returns
 unfolding headAnswer
 returns c = let b = now (c .before .before .args .bytes) in simp (lt-leb 11 (length b) (omega arith))
 
-shared-slice-read-if2 : tie.Need-shared-slice-read-if2
-shared-slice-read-if2 c = search needs
-
 returns-2 : tie.Need-returns-2
 unfolding headAnswer
 returns-2 c = let b = now (c .before .before .before .before .args .bytes) in simp (le-leb 11 (length b) (omega arith), ne-eqb (at b 0) 69 (omega arith))
-
-shared-slice-read-if3 : tie.Need-shared-slice-read-if3
-shared-slice-read-if3 c = search needs
 
 returns-3 : tie.Need-returns-3
 unfolding headAnswer
 returns-3 c = let b = now (c .before .before .before .before .before .before .args .bytes) in simp (le-leb 11 (length b) (omega arith), eq-eqb (at b 0) 69 (omega arith), ne-eqb (at b 1) 71 (omega arith))
 
-shared-slice-read-if4 : tie.Need-shared-slice-read-if4
-shared-slice-read-if4 c = search needs
-
 returns-4 : tie.Need-returns-4
 unfolding headAnswer
 returns-4 c = let b = now (c .before .before .before .before .before .before .before .before .args .bytes) in simp (le-leb 11 (length b) (omega arith), eq-eqb (at b 0) 69 (omega arith), eq-eqb (at b 1) 71 (omega arith), ne-eqb (at b 2) 76 (omega arith))
 
-field-requires : tie.Need-field-requires
-field-requires c κs = search needs
-
 returns-5 : tie.Need-returns-5
 unfolding headAnswer
 returns-5 c = let b = now (c .before .before .before .before .before .before .before .before .before .before .args .bytes) in simp (le-leb 11 (length b) (omega arith), eq-eqb (at b 0) 69 (omega arith), eq-eqb (at b 1) 71 (omega arith), eq-eqb (at b 2) 76 (omega arith), ne-eqb (version b) 1 (omega arith))
-
-counts-requires : tie.Need-counts-requires
-counts-requires c κs = search needs
 
 returns-6 : tie.Need-returns-6
 unfolding headAnswer
@@ -53,15 +38,5 @@ returns-6 c = let b = now (c .before .before .before .before .before .before .be
 pub head-spec : {M : Type 1} → statement M
 head-spec =
     tie.close
-    (tie.spec
-    returns
-    shared-slice-read-if2
-    returns-2
-    shared-slice-read-if3
-    returns-3
-    shared-slice-read-if4
-    returns-4
-    field-requires
-    returns-5
-    counts-requires
-    returns-6)
+    (tie.spec returns (λ c. search needs) returns-2 (λ c. search needs) returns-3 (λ c. search needs) returns-4 (λ c κs. search needs) returns-5
+    (λ c κs. search needs) returns-6)

@@ -11,4 +11,5 @@ returns-2 : tie.Need-returns-2
 returns-2 c = rw (le-ltb (c .before .args .x) (c .before .args .needed) (c .if1 .left))
 
 pub operand-good-spec : {M : Type 1} → statement M
-operand-good-spec = tie.close (tie.spec returns returns-2)
+operand-good-spec = tie.close
+    (tie.spec returns returns-2)

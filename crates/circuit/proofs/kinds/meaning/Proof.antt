@@ -14,29 +14,17 @@ use Rattle.circuit.proofs.kinds.meaning.Tie as tie
 returns : tie.Need-returns
 returns c = let a = c .before .args in meaning-past (a .kind) (a .a) (a .b) (a .c) (c .if1 .taken)
 
-cast-i : tie.Need-cast-i
-cast-i c = search needs
-
-cast-i-2 : tie.Need-cast-i-2
-cast-i-2 c = search needs
-
 mul-i : tie.Need-mul-i
 mul-i c = let a = c .before .args in omega (arith, byte-small (truth (a .b)))
 
 add-i : tie.Need-add-i
 add-i c = let a = c .before .args in omega (arith, byte-small (truth (a .a)), byte-small (truth (a .b)))
 
-cast-i-3 : tie.Need-cast-i-3
-cast-i-3 c = search needs
-
 mul-i-2 : tie.Need-mul-i-2
 mul-i-2 c = let a = c .before .args in omega (arith, byte-small (truth (a .c)))
 
 add-i-2 : tie.Need-add-i-2
 add-i-2 c = let a = c .before .args in omega (arith, byte-small (truth (a .a)), byte-small (truth (a .b)), byte-small (truth (a .c)))
-
-array-read-result : tie.Need-array-read-result
-array-read-result c = search needs
 
 power-requires : tie.Need-power-requires
 power-requires c κs = let a = c .before .args in omega (arith, byte-small (truth (a .a)), byte-small (truth (a .b)), byte-small (truth (a .c)))
@@ -50,16 +38,5 @@ returns-2 c = let a = c .before .before .args in ap (λ (p : ℕ). getD truthTab
 pub meaning-spec : {M : Type 1} → statement M
 meaning-spec =
     tie.close
-    (tie.spec
-    returns
-    cast-i
-    cast-i-2
-    mul-i
-    add-i
-    cast-i-3
-    mul-i-2
-    add-i-2
-    array-read-result
-    power-requires
-    div-result
+    (tie.spec returns (λ c. search needs) (λ c. search needs) mul-i add-i (λ c. search needs) mul-i-2 add-i-2 (λ c. search needs) power-requires div-result
     returns-2)

@@ -24,4 +24,5 @@ returns-5 : tie.Need-returns-5
 returns-5 c = sym (ap (λ (k : Kind). k .operands) (kind-past (c .before .before .before .before .args .kind) (c .if4 .left)))
 
 pub operands-spec : {M : Type 1} → statement M
-operands-spec = tie.close (tie.spec returns returns-2 returns-3 returns-4 returns-5)
+operands-spec = tie.close
+    (tie.spec returns returns-2 returns-3 returns-4 returns-5)

@@ -10,14 +10,9 @@ use borrow.Author.Needs.{needs}
 use Rattle.circuit.proofs.kinds.power.Statement.{statement}
 use Rattle.circuit.proofs.kinds.power.Tie as tie
 
-cast-result : tie.Need-cast-result
-cast-result c = search needs
-
-shl-result : tie.Need-shl-result
-shl-result c = search needs
-
 returns : tie.Need-returns
 returns c = shl-exact {a = 1} 1 (c .args .i) 8 (lit< tt) (omega arith) ∙ one-mul (2 ^ c .args .i)
 
 pub power-spec : {M : Type 1} → statement M
-power-spec = tie.close (tie.spec cast-result shl-result returns)
+power-spec = tie.close
+    (tie.spec (λ c. search needs) (λ c. search needs) returns)

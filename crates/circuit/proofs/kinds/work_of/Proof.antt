@@ -12,9 +12,6 @@ use Rattle.circuit.proofs.kinds.work_of.Tie as tie
 returns : tie.Need-returns
 returns c = (sym (ap (λ (k : Kind). k .work) (kind-past (c .before .args .kind) (c .if1 .taken))), lit≤ tt)
 
-array-read-result : tie.Need-array-read-result
-array-read-result c = search needs
-
 cast-result : tie.Need-cast-result
 cast-result c = omega (arith, work-entry (c .before .args .kind) (c .if1 .left))
 
@@ -22,4 +19,5 @@ returns-2 : tie.Need-returns-2
 returns-2 c = let e = work-entry (c .before .args .kind) (c .if1 .left) in (e .0, e .1)
 
 pub work-of-spec : {M : Type 1} → statement M
-work-of-spec = tie.close (tie.spec returns array-read-result cast-result returns-2)
+work-of-spec = tie.close
+    (tie.spec returns (λ c. search needs) cast-result returns-2)

@@ -12,45 +12,6 @@ use Rattle.circuit.specs.Plain.{gateBit}
 use Rattle.circuit.proofs.plain.gate_bit.Statement.{statement}
 use Rattle.circuit.proofs.plain.gate_bit.Tie as tie
 
-mul-at : tie.Need-mul-at
-mul-at c = search needs
-
-add-at : tie.Need-add-at
-add-at c = search needs
-
-add-field : tie.Need-add-field
-add-field c = search needs
-
-field-requires : tie.Need-field-requires
-field-requires c κs = search needs
-
-wire-requires : tie.Need-wire-requires
-wire-requires c κs = search needs
-
-add-field-2 : tie.Need-add-field-2
-add-field-2 c = search needs
-
-field-requires-2 : tie.Need-field-requires-2
-field-requires-2 c κs = search needs
-
-wire-requires-2 : tie.Need-wire-requires-2
-wire-requires-2 c κs = search needs
-
-add-field-3 : tie.Need-add-field-3
-add-field-3 c = search needs
-
-field-requires-3 : tie.Need-field-requires-3
-field-requires-3 c κs = search needs
-
-wire-requires-3 : tie.Need-wire-requires-3
-wire-requires-3 c κs = search needs
-
-byte-requires : tie.Need-byte-requires
-byte-requires c κs = search needs
-
-meaning-requires : tie.Need-meaning-requires
-meaning-requires c κs = search needs
-
 returns : tie.Need-returns
 returns c =
     let a = c .before .before .before .before .before .before .before .before .before .before .args in
@@ -67,18 +28,6 @@ returns c =
 pub gate-bit-spec : {M : Type 1} → statement M
 gate-bit-spec =
     tie.close
-    (tie.spec
-    mul-at
-    add-at
-    add-field
-    field-requires
-    wire-requires
-    add-field-2
-    field-requires-2
-    wire-requires-2
-    add-field-3
-    field-requires-3
-    wire-requires-3
-    byte-requires
-    meaning-requires
-    returns)
+    (tie.spec (λ c. search needs) (λ c. search needs) (λ c. search needs) (λ c κs. search needs) (λ c κs. search needs) (λ c. search needs)
+    (λ c κs. search needs) (λ c κs. search needs) (λ c. search needs) (λ c κs. search needs) (λ c κs. search needs) (λ c κs. search needs)
+    (λ c κs. search needs) returns)

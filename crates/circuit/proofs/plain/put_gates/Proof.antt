@@ -29,29 +29,14 @@ loop-holds c =
     let a = c .before .before .before .before .args in
     (omega arith, refl, run-none (now (a .bytes)) (now (a .bits)) (c .before .field .result) (omega arith))
 
-add-own : tie.Need-add-own Inv-loop μ-loop
-add-own c = omega arith
-
 gate-bit-requires : tie.Need-gate-bit-requires Inv-loop μ-loop
 gate-bit-requires c κs = (omega arith, omega arith)
-
-slice-write-bits : tie.Need-slice-write-bits Inv-loop μ-loop
-slice-write-bits c = omega arith
-
-add-g : tie.Need-add-g Inv-loop μ-loop
-add-g c = omega arith
-
-loop-less : tie.Need-loop-less Inv-loop μ-loop
-loop-less c = omega arith
 
 loop-again : tie.Need-loop-again Inv-loop μ-loop
 loop-again c =
     let a = c .before .before .before .before .before .before .before .before .args in
     let i = c .before .before .before .loop .inv in
     (omega arith, simp length-set (i .1), run-more (now (a .bytes)) (now (a .bits)) (c .before .before .before .before .before .field .result) (omega arith) (c .before .before .before .loop .g) (i .2) (c .gate-bit .result) (omega arith) (c .gate-bit .ensures))
-
-same-length : tie.Need-same-length Inv-loop μ-loop
-same-length c = omega arith
 
 returns : tie.Need-returns Inv-loop μ-loop
 returns c =
@@ -64,17 +49,5 @@ returns c =
 pub put-gates-spec : {M : Type 1} → statement M
 put-gates-spec =
     tie.close
-    (tie.spec
-    Inv-loop
-    μ-loop
-    field-requires
-    field-requires-2
-    loop-holds
-    add-own
-    gate-bit-requires
-    slice-write-bits
-    add-g
-    loop-less
-    loop-again
-    same-length
-    returns)
+    (tie.spec Inv-loop μ-loop field-requires field-requires-2 loop-holds (λ c. omega arith) gate-bit-requires (λ c. omega arith) (λ c. omega arith)
+    (λ c. omega arith) loop-again (λ c. omega arith) returns)

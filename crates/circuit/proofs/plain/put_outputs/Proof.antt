@@ -26,41 +26,11 @@ field-requires c κs = lit< tt
 field-requires-2 : tie.Need-field-requires-2 Inv-loop μ-loop
 field-requires-2 c κs = lit< tt
 
-add-first : tie.Need-add-first Inv-loop μ-loop
-add-first c = omega arith
-
 field-requires-3 : tie.Need-field-requires-3 Inv-loop μ-loop
 field-requires-3 c κs = lit< tt
 
 loop-holds : tie.Need-loop-holds Inv-loop μ-loop
 loop-holds c = (omega arith, refl, tab-none _ _)
-
-mul-field : tie.Need-mul-field Inv-loop μ-loop
-mul-field c = omega arith
-
-add-field : tie.Need-add-field Inv-loop μ-loop
-add-field c = omega arith
-
-mul-field-2 : tie.Need-mul-field-2 Inv-loop μ-loop
-mul-field-2 c = omega arith
-
-add-field-2 : tie.Need-add-field-2 Inv-loop μ-loop
-add-field-2 c = omega arith
-
-field-requires-4 : tie.Need-field-requires-4 Inv-loop μ-loop
-field-requires-4 c κs = omega arith
-
-wire-requires : tie.Need-wire-requires Inv-loop μ-loop
-wire-requires c κs = omega arith
-
-slice-write-out : tie.Need-slice-write-out Inv-loop μ-loop
-slice-write-out c = omega arith
-
-add-o : tie.Need-add-o Inv-loop μ-loop
-add-o c = omega arith
-
-loop-less : tie.Need-loop-less Inv-loop μ-loop
-loop-less c = omega arith
 
 loop-again : tie.Need-loop-again Inv-loop μ-loop
 loop-again c =
@@ -76,9 +46,6 @@ loop-again c =
     in
     (omega arith, simp length-set (i .1), tab-more (λ j. at (take (wires b) w) (outputAt b j)) (now (a .out)) o (omega arith) (i .2) e)
 
-same-length : tie.Need-same-length Inv-loop μ-loop
-same-length c = omega arith
-
 returns : tie.Need-returns Inv-loop μ-loop
 returns c =
     let a = c .before .before .before .before .before .before .before .before .args in
@@ -88,23 +55,6 @@ returns c =
 pub put-outputs-spec : {M : Type 1} → statement M
 put-outputs-spec =
     tie.close
-    (tie.spec
-    Inv-loop
-    μ-loop
-    field-requires
-    field-requires-2
-    add-first
-    field-requires-3
-    loop-holds
-    mul-field
-    add-field
-    mul-field-2
-    add-field-2
-    field-requires-4
-    wire-requires
-    slice-write-out
-    add-o
-    loop-less
-    loop-again
-    same-length
-    returns)
+    (tie.spec Inv-loop μ-loop field-requires field-requires-2 (λ c. omega arith) field-requires-3 loop-holds (λ c. omega arith) (λ c. omega arith)
+    (λ c. omega arith) (λ c. omega arith) (λ c κs. omega arith) (λ c κs. omega arith) (λ c. omega arith) (λ c. omega arith) (λ c. omega arith) loop-again
+    (λ c. omega arith) returns)

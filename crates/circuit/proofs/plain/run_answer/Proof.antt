@@ -12,17 +12,11 @@ use Rattle.circuit.specs.Plain.{runAnswer}
 use Rattle.circuit.proofs.plain.run_answer.Statement.{statement}
 use Rattle.circuit.proofs.plain.run_answer.Tie as tie
 
-check-requires : tie.Need-check-requires
-check-requires c κs = search needs
-
 returns : tie.Need-returns
 unfolding runAnswer
 returns c =
     let e = c .before .before .check .ensures in
     e ∙ kept _ _ _ (λ z. c .if1 .taken (ap (λ (r : Answer). r .number) e ∙ z))
-
-field-requires : tie.Need-field-requires
-field-requires c κs = search needs
 
 returns-2 : tie.Need-returns-2
 unfolding runAnswer
@@ -30,9 +24,6 @@ returns-2 c =
     let a = c .before .before .before .before .before .before .args in
     let e = c .before .before .before .before .check .ensures in
     done _ _ _ (sym (ap (λ (r : Answer). r .number) e) ∙ c .before .before .if1 .left) (rw (ne-eqb (a .ins) (inputs (now (a .bytes))) (omega arith)))
-
-field-requires-2 : tie.Need-field-requires-2
-field-requires-2 c κs = search needs
 
 returns-3 : tie.Need-returns-3
 unfolding runAnswer
@@ -51,4 +42,4 @@ returns-4 c =
 pub run-answer-spec : {M : Type 1} → statement M
 run-answer-spec =
     tie.close
-    (tie.spec check-requires returns field-requires returns-2 field-requires-2 returns-3 returns-4)
+    (tie.spec (λ c κs. search needs) returns (λ c κs. search needs) returns-2 (λ c κs. search needs) returns-3 returns-4)

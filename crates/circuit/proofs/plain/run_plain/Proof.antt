@@ -2,7 +2,6 @@
 -- Assumes nothing.
 use mathlib.Core.Path.{_≡_, sym, ap, _∙_}
 use lib.ListN.{length}
-use native.Mathlib.Omega.{arith}
 use denote.Ref.{now}
 use borrow.Author.Needs.{needs}
 use Rattle.params.specs.declared.Answer.{Answer}
@@ -15,17 +14,11 @@ use Rattle.circuit.proofs.plain.run_plain.Tie as tie
 good : (c : tie.Then1) → let a = c .before .before .before .before .before .before .args in RunGood (now (a .bytes)) (length (now (a .ins))) (length (now (a .out)))
 good c = run-good _ _ _ (sym (ap (λ (r : Answer). r .number) (c .before .before .run-answer .ensures)) ∙ c .if1 .taken)
 
-run-answer-requires : tie.Need-run-answer-requires
-run-answer-requires c κs = search needs
-
 run-into-requires : tie.Need-run-into-requires
 run-into-requires c κs =
     let g = good (c .before) in
     let h = g .valid .head in
     ((h .inputs-to, h .gates-to), (g .ins-length, g .outs-length))
-
-same-length : tie.Need-same-length
-same-length c = search needs
 
 returns : tie.Need-returns
 unfolding runOut
@@ -41,4 +34,5 @@ returns-2 c =
 
 pub run-plain-spec : {M : Type 1} → statement M
 run-plain-spec =
-    tie.close (tie.spec run-answer-requires run-into-requires same-length returns returns-2)
+    tie.close
+    (tie.spec (λ c κs. search needs) run-into-requires (λ c. search needs) returns returns-2)

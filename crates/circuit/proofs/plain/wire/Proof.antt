@@ -9,9 +9,6 @@ use borrow.Author.Needs.{needs}
 use Rattle.circuit.proofs.plain.wire.Statement.{statement}
 use Rattle.circuit.proofs.plain.wire.Tie as tie
 
-shared-slice-read-result : tie.Need-shared-slice-read-result
-shared-slice-read-result c = search needs
-
 returns : tie.Need-returns
 returns c = let a = c .before .before .args in sym (getD-take (a .first) (now (a .bits)) (a .w) 0 (omega arith))
 
@@ -22,4 +19,5 @@ returns-2 c =
     sym (List·getD-eq-default (take (a .first) (now (a .bits))) 0 (omega arith))
 
 pub wire-spec : {M : Type 1} → statement M
-wire-spec = tie.close (tie.spec shared-slice-read-result returns returns-2)
+wire-spec = tie.close
+    (tie.spec (λ c. search needs) returns returns-2)

@@ -24,23 +24,8 @@ four-kept : (l : List ℕ) (a b c d : ℕ) → length (set (set (set (set l 0 a)
 four-kept l a b c d =
     length-set (set (set (set l 0 a) 1 b) 2 c) 3 d ∙ length-set (set (set l 0 a) 1 b) 2 c ∙ length-set (set l 0 a) 1 b ∙ length-set l 0 a
 
-slice-write-out : tie.Need-slice-write-out
-slice-write-out c = search needs
-
-slice-write-out-2 : tie.Need-slice-write-out-2
-slice-write-out-2 c = search needs
-
-slice-write-out-3 : tie.Need-slice-write-out-3
-slice-write-out-3 c = search needs
-
-slice-write-out-4 : tie.Need-slice-write-out-4
-slice-write-out-4 c = search needs
-
 slice-write-out-5 : tie.Need-slice-write-out-5
 slice-write-out-5 c = let a = c .args in let l = four-kept (now (a .out)) (a .a) (a .b) (a .c) (a .d) in let h : length (now (a .out)) ≡ 5 = search needs in omega arith
-
-same-length : tie.Need-same-length
-same-length c = search needs
 
 returns : tie.Need-returns
 returns c = let a = c .args in five (now (a .out)) (a .a) (a .b) (a .c) (a .d) (a .e) (search needs)
@@ -48,11 +33,4 @@ returns c = let a = c .args in five (now (a .out)) (a .a) (a .b) (a .c) (a .d) (
 pub put-five-spec : {M : Type 1} → statement M
 put-five-spec =
     tie.close
-    (tie.spec
-    slice-write-out
-    slice-write-out-2
-    slice-write-out-3
-    slice-write-out-4
-    slice-write-out-5
-    same-length
-    returns)
+    (tie.spec (λ c. search needs) (λ c. search needs) (λ c. search needs) (λ c. search needs) slice-write-out-5 (λ c. search needs) returns)

@@ -19,14 +19,8 @@ five-words : (bs : List ℕ) (words : ℕ) → toldAnswer bs words .number ≡ 0
 unfolding toldAnswer
 five-words bs words h = eqb-true _ _ (passed _ _ _ (lit< tt) (both-done (answerOf bs) _ h .1) .0)
 
-tell-answer-requires : tie.Need-tell-answer-requires
-tell-answer-requires c κs = search needs
-
 tell-into-requires : tie.Need-tell-into-requires
 tell-into-requires c κs = five-words _ _ (sym (ap (λ (r : Answer). r .number) (c .before .before .before .tell-answer .ensures)) ∙ c .before .if1 .taken)
-
-same-length : tie.Need-same-length
-same-length c = search needs
 
 returns : tie.Need-returns
 unfolding toldOut
@@ -42,4 +36,5 @@ returns-2 c =
 
 pub tell-spec : {M : Type 1} → statement M
 tell-spec =
-    tie.close (tie.spec tell-answer-requires tell-into-requires same-length returns returns-2)
+    tie.close
+    (tie.spec (λ c κs. search needs) tell-into-requires (λ c. search needs) returns returns-2)

@@ -10,9 +10,6 @@ use Rattle.circuit.specs.Told.{toldAnswer}
 use Rattle.circuit.proofs.words.tell_answer.Statement.{statement}
 use Rattle.circuit.proofs.words.tell_answer.Tie as tie
 
-check-requires : tie.Need-check-requires
-check-requires c κs = search needs
-
 returns : tie.Need-returns
 unfolding toldAnswer
 returns c =
@@ -34,4 +31,5 @@ returns-3 c =
     done _ _ _ (sym (ap (λ (r : Answer). r .number) e) ∙ c .before .if1 .left) (rw (eq-eqb (a .words) 5 (omega arith)))
 
 pub tell-answer-spec : {M : Type 1} → statement M
-tell-answer-spec = tie.close (tie.spec check-requires returns returns-2 returns-3)
+tell-answer-spec = tie.close
+    (tie.spec (λ c κs. search needs) returns returns-2 returns-3)

@@ -6,17 +6,9 @@ use borrow.Author.Needs.{needs}
 use Rattle.drift_run.proofs.gates_of.drift_at.Statement.{statement}
 use Rattle.drift_run.proofs.gates_of.drift_at.Tie as tie
 
-mul-result : tie.Need-mul-result
-mul-result c = search needs
-
-shared-slice-read-result : tie.Need-shared-slice-read-result
-shared-slice-read-result c = search needs
-
-returns : tie.Need-returns
-returns c = search needs
-
 returns-2 : tie.Need-returns-2
 returns-2 c = let g = c .before .args in sym (List·getD-eq-default (g .drifts .now) 0 (c .if1 .left))
 
 pub drift-at-spec : {M : Type 1} → statement M
-drift-at-spec = tie.close (tie.spec mul-result shared-slice-read-result returns returns-2)
+drift-at-spec = tie.close
+    (tie.spec (λ c. search needs) (λ c. search needs) (λ c. search needs) returns-2)

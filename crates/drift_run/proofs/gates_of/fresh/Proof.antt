@@ -8,18 +8,10 @@ use borrow.Author.Needs.{needs}
 use Rattle.drift_run.proofs.gates_of.fresh.Statement.{statement}
 use Rattle.drift_run.proofs.gates_of.fresh.Tie as tie
 
-phase-requires : tie.Need-phase-requires
-phase-requires c κs = search needs
-
-bit-word-requires : tie.Need-bit-word-requires
-bit-word-requires c κs = search needs
-
-sub-requires : tie.Need-sub-requires
-sub-requires c κs = search needs
-
 returns : tie.Need-returns
 unfolding freshWord
 returns c = c .sub .ensures ∙ ap₂ (λ (x y : ℕ). (x + neg y) % Q) (c .before .before .phase .ensures) (c .before .bit-word .ensures)
 
 pub fresh-spec : {M : Type 1} → statement M
-fresh-spec = tie.close (tie.spec phase-requires bit-word-requires sub-requires returns)
+fresh-spec = tie.close
+    (tie.spec (λ c κs. search needs) (λ c κs. search needs) (λ c κs. search needs) returns)

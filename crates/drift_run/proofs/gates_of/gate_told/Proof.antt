@@ -57,24 +57,6 @@ in-own c =
     let v = s .pre .0 .valid in
     wire-in (s .args .bytes .now) v (s .args .p) (inputs (s .args .bytes .now) + s .args .g) (own-in (s .args .bytes .now) v (s .args .g) (s .pre .1)) (own c) (s .pre .0 .wires-length)
 
-counts-requires : tie.Need-counts-requires
-counts-requires c κs = search needs
-
-kind-at-requires : tie.Need-kind-at-requires
-kind-at-requires c κs = search needs
-
-way-of-requires : tie.Need-way-of-requires
-way-of-requires c κs = search needs
-
-operand-at-requires : tie.Need-operand-at-requires
-operand-at-requires c κs = search needs
-
-operand-at-requires-2 : tie.Need-operand-at-requires-2
-operand-at-requires-2 c κs = search needs
-
-operand-at-requires-3 : tie.Need-operand-at-requires-3
-operand-at-requires-3 c κs = search needs
-
 add-own : tie.Need-add-own
 add-own c = let s = c .before .before .before .before .before .before .before .before .before .before .before in let e = own c in let h = own-to (s .args .bytes .now) (s .pre .0 .valid) (s .args .g) (s .pre .1) in omega (arith, e, h)
 
@@ -89,15 +71,6 @@ wire-requires-3 c κs = in-third (c .before .before)
 
 wire-requires-4 : tie.Need-wire-requires-4
 wire-requires-4 c κs = in-own (c .before .before .before)
-
-drift-at-requires : tie.Need-drift-at-requires
-drift-at-requires c κs = search needs
-
-drift-at-requires-2 : tie.Need-drift-at-requires-2
-drift-at-requires-2 c κs = search needs
-
-drift-at-requires-3 : tie.Need-drift-at-requires-3
-drift-at-requires-3 c κs = search needs
 
 way-drift-requires : tie.Need-way-drift-requires
 way-drift-requires c κs =
@@ -124,20 +97,6 @@ returns c =
 pub gate-told-spec : {M : Type 1} → statement M
 gate-told-spec =
     tie.close
-    (tie.spec
-    counts-requires
-    kind-at-requires
-    way-of-requires
-    operand-at-requires
-    operand-at-requires-2
-    operand-at-requires-3
-    add-own
-    wire-requires
-    wire-requires-2
-    wire-requires-3
-    wire-requires-4
-    drift-at-requires
-    drift-at-requires-2
-    drift-at-requires-3
-    way-drift-requires
+    (tie.spec (λ c κs. search needs) (λ c κs. search needs) (λ c κs. search needs) (λ c κs. search needs) (λ c κs. search needs) (λ c κs. search needs) add-own
+    wire-requires wire-requires-2 wire-requires-3 wire-requires-4 (λ c κs. search needs) (λ c κs. search needs) (λ c κs. search needs) way-drift-requires
     returns)

@@ -11,7 +11,6 @@ use Rattle.drift.specs.CircuitWords.{allWords}
 use Rattle.drift.specs.Short.{shortTo, shortBroughtTo}
 use Rattle.drift_run.specs.declared.ways.Drifted.{Drifted}
 use Rattle.drift_run.proofs.Drifts.{brought-none, gates-none, brought-more, gates-more, brought-end, gates-end}
-use borrow.Author.Needs.{needs}
 use Rattle.drift_run.proofs.gates_of.gates_into.Statement.{statement}
 use Rattle.drift_run.proofs.gates_of.gates_into.Tie as tie
 
@@ -27,9 +26,6 @@ abbrev μ-loop : tie.MeasureT-loop
 fits : (s : tie.Start Inv-loop μ-loop) → inputs (s .args .bytes .now) ≤ length (s .args .drifts .now)
 fits s = let d = s .pre .drifts-length in omega (arith, d)
 
-counts-requires : tie.Need-counts-requires Inv-loop μ-loop
-counts-requires c κs = tt
-
 loop-holds : tie.Need-loop-holds Inv-loop μ-loop
 loop-holds c =
     let s = c .before .before .before .before .before in
@@ -43,9 +39,6 @@ put-drift-requires c κs =
     let e = gates-are (s .args .bytes .now) (c .before .before .before .counts .ensures) in
     let t = c .before .loop-test .taken in
     (rw (l .inv .1) (s .pre), omega (arith, e, t))
-
-both-requires : tie.Need-both-requires Inv-loop μ-loop
-both-requires c κs = tt
 
 add-g : tie.Need-add-g Inv-loop μ-loop
 add-g c = let t = c .before .before .before .before .before .loop-test .taken in omega (arith, t)
@@ -85,15 +78,4 @@ returns c =
 pub gates-into-spec : {M : Type 1} → statement M
 gates-into-spec =
     tie.close
-    (tie.spec
-    Inv-loop
-    μ-loop
-    counts-requires
-    loop-holds
-    put-drift-requires
-    both-requires
-    add-g
-    loop-less
-    loop-again
-    same-length
-    returns)
+    (tie.spec Inv-loop μ-loop (λ c κs. tt) loop-holds put-drift-requires (λ c κs. tt) add-g loop-less loop-again same-length returns)

@@ -14,7 +14,6 @@ use Rattle.encrypted_run.proofs.Ciphers.{wire-within}
 use Rattle.drift.specs.Words.{freshWord}
 use Rattle.drift.specs.CircuitWords.{freshWords}
 use Rattle.drift_run.proofs.Lent.{read-length}
-use borrow.Author.Needs.{needs}
 use Rattle.drift_run.proofs.gates_of.inputs_into.Statement.{statement}
 use Rattle.drift_run.proofs.gates_of.inputs_into.Tie as tie
 
@@ -52,12 +51,6 @@ mul-drifts c = let s = c .before .before .before .before .before .before .before
 slice-write-drifts : tie.Need-slice-write-drifts Inv-loop μ-loop
 slice-write-drifts c = let s = c .before .before .before .before .before .before .before .before .before in let h = s .pre .2 in let l = c .before .before .before .before .loop .inv .2 in omega arith
 
-add-i : tie.Need-add-i Inv-loop μ-loop
-add-i c = omega arith
-
-loop-less : tie.Need-loop-less Inv-loop μ-loop
-loop-less c = omega arith
-
 loop-again : tie.Need-loop-again Inv-loop μ-loop
 loop-again c =
     let l = c .before .before .before .before .loop in
@@ -84,17 +77,5 @@ returns c =
 pub inputs-into-spec : {M : Type 1} → statement M
 inputs-into-spec =
     tie.close
-    (tie.spec
-    Inv-loop
-    μ-loop
-    loop-holds
-    wire-requires
-    shared-slice-read-fresh
-    fresh-requires
-    mul-drifts
-    slice-write-drifts
-    add-i
-    loop-less
-    loop-again
-    same-length
-    returns)
+    (tie.spec Inv-loop μ-loop loop-holds wire-requires shared-slice-read-fresh fresh-requires mul-drifts slice-write-drifts (λ c. omega arith)
+    (λ c. omega arith) loop-again same-length returns)

@@ -10,9 +10,6 @@ use borrow.Author.Needs.{needs}
 use Rattle.drift_run.proofs.gates_of.one.Statement.{statement}
 use Rattle.drift_run.proofs.gates_of.one.Tie as tie
 
-run-gate-requires : tie.Need-run-gate-requires
-run-gate-requires c κs = search needs
-
 put-drift-requires : tie.Need-put-drift-requires
 put-drift-requires c κs = let s = c .before .before .before .before .before .before .before .before .before .before .before .before in (rw (c .before .before .before .wires .given) (s .pre .0 .passing), s .pre .1)
 
@@ -35,4 +32,5 @@ returns c =
 
 pub one-spec : {M : Type 1} → statement M
 one-spec =
-    tie.close (tie.spec run-gate-requires put-drift-requires same-length same-length-2 returns)
+    tie.close
+    (tie.spec (λ c κs. search needs) put-drift-requires same-length same-length-2 returns)

@@ -10,9 +10,6 @@ use borrow.Author.Needs.{needs}
 use Rattle.drift_run.proofs.gates_of.one_or_none.Statement.{statement}
 use Rattle.drift_run.proofs.gates_of.one_or_none.Tie as tie
 
-counts-requires : tie.Need-counts-requires
-counts-requires c κs = search needs
-
 one-requires : tie.Need-one-requires
 one-requires c κs =
     let s = c .before .before .before .before .before .before .before .before .before .before .before in
@@ -47,4 +44,5 @@ returns-2 c =
 
 pub one-or-none-spec : {M : Type 1} → statement M
 one-or-none-spec =
-    tie.close (tie.spec counts-requires one-requires same-length same-length-2 returns returns-2)
+    tie.close
+    (tie.spec (λ c κs. search needs) one-requires same-length same-length-2 returns returns-2)

@@ -10,7 +10,6 @@ use Rattle.encrypted_run.proofs.Operands.{outputs-are, there}
 use Rattle.drift.specs.Words.{insideWord}
 use Rattle.drift.specs.CircuitWords.{allWords, outputWords}
 use Rattle.drift_run.proofs.Drifts.{all-none, all-more, all-done}
-use borrow.Author.Needs.{needs}
 use Rattle.drift_run.proofs.gates_of.outputs_inside.Statement.{statement}
 use Rattle.drift_run.proofs.gates_of.outputs_inside.Tie as tie
 
@@ -20,29 +19,11 @@ Inv-loop bytes drifts n inside₀ o₀ inside o = (n ≡ outputs bytes) × (o �
 abbrev μ-loop : tie.MeasureT-loop
 μ-loop bytes drifts n inside₀ o₀ inside o = outputs bytes - o
 
-counts-requires : tie.Need-counts-requires Inv-loop μ-loop
-counts-requires c κs = tt
-
 loop-holds : tie.Need-loop-holds Inv-loop μ-loop
 loop-holds c = (outputs-are (c .before .before .before .args .bytes .now) (c .counts .ensures), omega arith, all-none _)
 
-output-at-requires : tie.Need-output-at-requires Inv-loop μ-loop
-output-at-requires c κs = tt
-
-drift-at-requires : tie.Need-drift-at-requires Inv-loop μ-loop
-drift-at-requires c κs = tt
-
-word-inside-requires : tie.Need-word-inside-requires Inv-loop μ-loop
-word-inside-requires c κs = tt
-
-both-requires : tie.Need-both-requires Inv-loop μ-loop
-both-requires c κs = tt
-
 add-o : tie.Need-add-o Inv-loop μ-loop
 add-o c = let h = c .before .before .before .before .before .before .before .before .before .pre .head .outputs-to in omega arith
-
-loop-less : tie.Need-loop-less Inv-loop μ-loop
-loop-less c = omega arith
 
 loop-again : tie.Need-loop-again Inv-loop μ-loop
 loop-again c =
@@ -62,16 +43,4 @@ returns c = let l = c .before .loop in all-done _ (l .inv .1) (omega arith) (l .
 pub outputs-inside-spec : {M : Type 1} → statement M
 outputs-inside-spec =
     tie.close
-    (tie.spec
-    Inv-loop
-    μ-loop
-    counts-requires
-    loop-holds
-    output-at-requires
-    drift-at-requires
-    word-inside-requires
-    both-requires
-    add-o
-    loop-less
-    loop-again
-    returns)
+    (tie.spec Inv-loop μ-loop (λ c κs. tt) loop-holds (λ c κs. tt) (λ c κs. tt) (λ c κs. tt) (λ c κs. tt) add-o (λ c. omega arith) loop-again returns)

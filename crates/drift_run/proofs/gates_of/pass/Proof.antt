@@ -27,9 +27,6 @@ gates-into-requires c κs = let s = c .before .before .before .before .before .b
 outputs-inside-requires : tie.Need-outputs-inside-requires
 outputs-inside-requires c κs = c .before .before .before .before .before .before .before .before .before .before .before .before .before .before .before .pre .0 .finished .valid
 
-both-requires : tie.Need-both-requires
-both-requires c κs = search needs
-
 same-length : tie.Need-same-length
 same-length c = c .before .before .before .before .drifts2 .given ∙ c .before .before .before .before .before .before .before .before .drifts .given
 
@@ -45,10 +42,4 @@ returns c =
 pub pass-spec : {M : Type 1} → statement M
 pass-spec =
     tie.close
-    (tie.spec
-    inputs-into-requires
-    gates-into-requires
-    outputs-inside-requires
-    both-requires
-    same-length
-    returns)
+    (tie.spec inputs-into-requires gates-into-requires outputs-inside-requires (λ c κs. search needs) same-length returns)

@@ -30,9 +30,6 @@ own-fits c =
     let d = s .pre .0 .drifts-length in
     omega (arith, e, h, d)
 
-counts-requires : tie.Need-counts-requires
-counts-requires c κs = search needs
-
 add-own : tie.Need-add-own
 add-own c = let s = c .before .before .before .before .before .before in let e = own c in let h = own-to (s .args .bytes .now) (s .pre .0 .finished .valid) (s .args .g) (s .pre .1) in omega (arith, e, h)
 
@@ -51,9 +48,6 @@ mul-drifts c = let s = c .before .before .before .before .before .before .before
 slice-write-drifts : tie.Need-slice-write-drifts
 slice-write-drifts c = own-fits (c .before .before)
 
-same-length : tie.Need-same-length
-same-length c = search needs
-
 returns : tie.Need-returns
 returns c =
     let s = c .before .before .before .before .before .before .before .before in
@@ -69,13 +63,5 @@ returns c =
 pub put-drift-spec : {M : Type 1} → statement M
 put-drift-spec =
     tie.close
-    (tie.spec
-    counts-requires
-    add-own
-    slice-reshare-prefix-gate-told
-    slice-aggregate-gate-told
-    gate-told-requires
-    mul-drifts
-    slice-write-drifts
-    same-length
-    returns)
+    (tie.spec (λ c κs. search needs) add-own slice-reshare-prefix-gate-told slice-aggregate-gate-told gate-told-requires mul-drifts slice-write-drifts
+    (λ c. search needs) returns)

@@ -9,9 +9,6 @@ use borrow.Author.Needs.{needs}
 use Rattle.drift_run.proofs.gates_of.run_into.Statement.{statement}
 use Rattle.drift_run.proofs.gates_of.run_into.Tie as tie
 
-run-encrypted-requires : tie.Need-run-encrypted-requires
-run-encrypted-requires c κs = search needs
-
 pass-requires : tie.Need-pass-requires
 pass-requires c κs =
     let s = c .before .before .before .before .before .before .before .before .before .before .before .before .before .before .before .before .before .before in
@@ -43,4 +40,4 @@ returns c =
 pub run-into-spec : {M : Type 1} → statement M
 run-into-spec =
     tie.close
-    (tie.spec run-encrypted-requires pass-requires same-length same-length-2 same-length-3 returns)
+    (tie.spec (λ c κs. search needs) pass-requires same-length same-length-2 same-length-3 returns)

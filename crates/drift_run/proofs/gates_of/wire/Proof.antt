@@ -9,30 +9,6 @@ use borrow.Author.Needs.{needs}
 use Rattle.drift_run.proofs.gates_of.wire.Statement.{statement}
 use Rattle.drift_run.proofs.gates_of.wire.Tie as tie
 
-cast-words : tie.Need-cast-words
-cast-words c = search needs
-
-add-words : tie.Need-add-words
-add-words c = search needs
-
-mul-from : tie.Need-mul-from
-mul-from c = search needs
-
-add-to : tie.Need-add-to
-add-to c = search needs
-
-mul-result : tie.Need-mul-result
-mul-result c = search needs
-
-sub-result : tie.Need-sub-result
-sub-result c = search needs
-
-part-result-start : tie.Need-part-result-start
-part-result-start c = search needs
-
-part-result-end : tie.Need-part-result-end
-part-result-end c = search needs
-
 returns : tie.Need-returns
 unfolding cipherAt
 returns c = let g = c .before .before .args in ap (λ (k : ℕ). take k (drop (g .w * (g .p .n + 1)) (g .wires .now))) (add-sub-cancel-left (g .w * (g .p .n + 1)) (g .p .n + 1))
@@ -40,13 +16,5 @@ returns c = let g = c .before .before .args in ap (λ (k : ℕ). take k (drop (g
 pub wire-spec : {M : Type 1} → statement M
 wire-spec =
     tie.close
-    (tie.spec
-    cast-words
-    add-words
-    mul-from
-    add-to
-    mul-result
-    sub-result
-    part-result-start
-    part-result-end
-    returns)
+    (tie.spec (λ c. search needs) (λ c. search needs) (λ c. search needs) (λ c. search needs) (λ c. search needs) (λ c. search needs) (λ c. search needs)
+    (λ c. search needs) returns)

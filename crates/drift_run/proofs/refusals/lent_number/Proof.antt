@@ -26,15 +26,6 @@ in-words c = ap (λ (k : ℕ). k * (c .before .before .before .args .p .n + 1)) 
 out-words : (c : tie.After-struct-known) → let d = c .before .before .before .args in c .before .counts .result .outputs * (d .p .n + 1) ≡ outputs (d .bytes .now) * (d .p .n + 1)
 out-words c = ap (λ (k : ℕ). k * (c .before .before .before .args .p .n + 1)) (outs c)
 
-counts-requires : tie.Need-counts-requires
-counts-requires c κs = search needs
-
-cast-words : tie.Need-cast-words
-cast-words c = search needs
-
-add-words : tie.Need-add-words
-add-words c = search needs
-
 mul-if1 : tie.Need-mul-if1
 mul-if1 c =
     let s = c .before .before .before .before in
@@ -64,9 +55,6 @@ unfolding lentNumber
 returns-3 c =
     simp (fits (c .before .before .before .before .if1 .left) (in-words (c .before .before .before .before .before .before)), fits (c .before .before .if2 .left) (ins (c .before .before .before .before .before .before)), unfit (c .if3 .taken) (out-words (c .before .before .before .before .before .before)))
 
-wires-number-requires : tie.Need-wires-number-requires
-wires-number-requires c κs = search needs
-
 returns-4 : tie.Need-returns-4
 unfolding lentNumber
 returns-4 c =
@@ -79,14 +67,4 @@ returns-4 c =
 pub lent-number-spec : {M : Type 1} → statement M
 lent-number-spec =
     tie.close
-    (tie.spec
-    counts-requires
-    cast-words
-    add-words
-    mul-if1
-    returns
-    returns-2
-    mul-if3
-    returns-3
-    wires-number-requires
-    returns-4)
+    (tie.spec (λ c κs. search needs) (λ c. search needs) (λ c. search needs) mul-if1 returns returns-2 mul-if3 returns-3 (λ c κs. search needs) returns-4)

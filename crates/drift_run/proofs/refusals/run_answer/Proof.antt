@@ -19,18 +19,12 @@ keys-passed c = sym (c .before .secrets-number .ensures) ∙ c .if1 .left
 circuit-passed : (c : tie.Else2) → answerOf (c .before .before .before .before .before .before .before .before .args .bytes .now) .number ≡ 0
 circuit-passed c = sym (ap (λ (a : Answer). a .number) (c .before .before .check .ensures)) ∙ c .if2 .left
 
-secrets-number-requires : tie.Need-secrets-number-requires
-secrets-number-requires c κs = search needs
-
 returns : tie.Need-returns
 unfolding driftAnswer
 returns c =
     let e = c .before .secrets-number .ensures in
     let g = c .before .before .before .before .before .args in
     ap answer e ∙ kept (secretsNumber (g .p) (g .lk) (g .ls) (g .key .now) (g .z .now)) _ _ (λ z. c .if1 .taken (e ∙ z))
-
-check-requires : tie.Need-check-requires
-check-requires c κs = search needs
 
 returns-2 : tie.Need-returns-2
 unfolding driftAnswer
@@ -50,10 +44,4 @@ returns-3 c = done _ _ _ (keys-passed (c .before .before .before .before)) (done
 pub run-answer-spec : {M : Type 1} → statement M
 run-answer-spec =
     tie.close
-    (tie.spec
-    secrets-number-requires
-    returns
-    check-requires
-    returns-2
-    lent-number-requires
-    returns-3)
+    (tie.spec (λ c κs. search needs) returns (λ c κs. search needs) returns-2 lent-number-requires returns-3)

@@ -35,9 +35,6 @@ first c = fits (c .if4 .left) (ap (λ (s : Sizes). s .n) (lengths (c .before .be
 second : (c : tie.Else5) → let a = c .before .before .before .before .before .before .before .before .before .before .before .before .before .args in eqb (length (a .z .now)) (size (a .p)) ≡ true
 second c = fits (c .if5 .left) (ap (λ (s : Sizes). s .size) (lengths (c .before .before .before .before .before .before .before .before)))
 
-sizes-of-requires : tie.Need-sizes-of-requires
-sizes-of-requires c κs = search needs
-
 returns : tie.Need-returns
 unfolding secretsNumber
 returns c = simp (out-params _ (c .before .before .sizes-of .ensures) (c .if1 .taken))
@@ -66,9 +63,6 @@ returns-5 c =
       unfit (c .if5 .taken) (ap (λ (s : Sizes). s .size) (lengths (c .before .before .before .before .before .before .before .before))),
     )
 
-key-number-requires : tie.Need-key-number-requires
-key-number-requires c κs = search needs
-
 returns-6 : tie.Need-returns-6
 unfolding secretsNumber
 returns-6 c =
@@ -81,9 +75,6 @@ returns-6 c =
       second (c .before .before),
       key-bad (a .key .now) (λ q. c .if6 .taken (c .before .key-number .ensures ∙ q)),
     )
-
-key-number-requires-2 : tie.Need-key-number-requires-2
-key-number-requires-2 c κs = search needs
 
 returns-7 : tie.Need-returns-7
 unfolding secretsNumber
@@ -101,14 +92,4 @@ returns-7 c =
 pub secrets-number-spec : {M : Type 1} → statement M
 secrets-number-spec =
     tie.close
-    (tie.spec
-    sizes-of-requires
-    returns
-    returns-2
-    returns-3
-    returns-4
-    returns-5
-    key-number-requires
-    returns-6
-    key-number-requires-2
-    returns-7)
+    (tie.spec (λ c κs. search needs) returns returns-2 returns-3 returns-4 returns-5 (λ c κs. search needs) returns-6 (λ c κs. search needs) returns-7)

@@ -24,17 +24,8 @@ long : (c : tie.After-struct-known) → let p = c .before .before .before .args 
     (c .before .counts .result .inputs + c .before .counts .result .gates) * (p .n + 1) ≡ wires (c .before .before .before .args .bytes .now) * (p .n + 1)
 long c = ap (λ (k : ℕ). k * (c .before .before .before .args .p .n + 1)) (counted c)
 
-counts-requires : tie.Need-counts-requires
-counts-requires c κs = search needs
-
 add-wires : tie.Need-add-wires
 add-wires c = let h = few c in omega arith
-
-cast-words : tie.Need-cast-words
-cast-words c = search needs
-
-add-words : tie.Need-add-words
-add-words c = search needs
 
 mul-if1 : tie.Need-mul-if1
 mul-if1 c = let w = words-to (c .before .before .before .before .args .p) _ (c .before .before .before .before .pre .0) (few (c .before)) in omega arith
@@ -54,4 +45,4 @@ returns-3 c = simp (fits (c .before .if1 .left) (long (c .before .before .before
 pub wires-number-spec : {M : Type 1} → statement M
 wires-number-spec =
     tie.close
-    (tie.spec counts-requires add-wires cast-words add-words mul-if1 returns returns-2 returns-3)
+    (tie.spec (λ c κs. search needs) add-wires (λ c. search needs) (λ c. search needs) mul-if1 returns returns-2 returns-3)

@@ -8,11 +8,9 @@ use borrow.Author.Needs.{needs}
 use Rattle.drift_run.proofs.turns.body_steps.Statement.{statement}
 use Rattle.drift_run.proofs.turns.body_steps.Tie as tie
 
-body-amount-requires : tie.Need-body-amount-requires
-body-amount-requires c κs = search needs
-
 returns : tie.Need-returns
 returns c = let s = c .before .before in ap (λ (x : Rounded). x .amount .0) (c .before .body-amount .ensures ∙ rounded-done (s .args .p) (bodyAmount (s .args .p) (s .args .word)) (s .pre))
 
 pub body-steps-spec : {M : Type 1} → statement M
-body-steps-spec = tie.close (tie.spec body-amount-requires returns)
+body-steps-spec = tie.close
+    (tie.spec (λ c κs. search needs) returns)

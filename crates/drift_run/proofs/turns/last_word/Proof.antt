@@ -8,30 +8,6 @@ use borrow.Author.Needs.{needs}
 use Rattle.drift_run.proofs.turns.last_word.Statement.{statement}
 use Rattle.drift_run.proofs.turns.last_word.Tie as tie
 
-weights-of-requires : tie.Need-weights-of-requires
-weights-of-requires c κs = search needs
-
-cast-n : tie.Need-cast-n
-cast-n c = search needs
-
-mul-weighted : tie.Need-mul-weighted
-mul-weighted c = search needs
-
-shared-slice-read-weighted : tie.Need-shared-slice-read-weighted
-shared-slice-read-weighted c = search needs
-
-mul-weighted-2 : tie.Need-mul-weighted-2
-mul-weighted-2 c = search needs
-
-shared-slice-read-weighted-2 : tie.Need-shared-slice-read-weighted-2
-shared-slice-read-weighted-2 c = search needs
-
-weighted-requires : tie.Need-weighted-requires
-weighted-requires c κs = search needs
-
-add-requires : tie.Need-add-requires
-add-requires c κs = search needs
-
 returns : tie.Need-returns
 returns c =
     let s = c .before .before .before .before .before .before .before .before in
@@ -42,13 +18,5 @@ returns c =
 pub last-word-spec : {M : Type 1} → statement M
 last-word-spec =
     tie.close
-    (tie.spec
-    weights-of-requires
-    cast-n
-    mul-weighted
-    shared-slice-read-weighted
-    mul-weighted-2
-    shared-slice-read-weighted-2
-    weighted-requires
-    add-requires
-    returns)
+    (tie.spec (λ c κs. search needs) (λ c. search needs) (λ c. search needs) (λ c. search needs) (λ c. search needs) (λ c. search needs) (λ c κs. search needs)
+    (λ c κs. search needs) returns)

@@ -8,11 +8,9 @@ use borrow.Author.Needs.{needs}
 use Rattle.drift_run.proofs.turns.mask_steps.Statement.{statement}
 use Rattle.drift_run.proofs.turns.mask_steps.Tie as tie
 
-mask-amount-requires : tie.Need-mask-amount-requires
-mask-amount-requires c κs = search needs
-
 returns : tie.Need-returns
 returns c = let s = c .before .before in ap (λ (x : Rounded). x .amount .0) (c .before .mask-amount .ensures ∙ rounded-done (s .args .p) (maskAmount (s .args .p) (s .args .word)) (s .pre))
 
 pub mask-steps-spec : {M : Type 1} → statement M
-mask-steps-spec = tie.close (tie.spec mask-amount-requires returns)
+mask-steps-spec = tie.close
+    (tie.spec (λ c κs. search needs) returns)

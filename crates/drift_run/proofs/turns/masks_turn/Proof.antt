@@ -10,7 +10,6 @@ use Rattle.ring.specs.Sums.{sumTo}
 use Rattle.ring.proofs.SumLaws.{sum-none, sum-step, sum-done}
 use Rattle.rotation.specs.Amount.{maskAmount}
 use Rattle.drift_run.proofs.Steps.{masks-sum}
-use borrow.Author.Needs.{needs}
 use Rattle.drift_run.proofs.turns.masks_turn.Statement.{statement}
 use Rattle.drift_run.proofs.turns.masks_turn.Tie as tie
 
@@ -19,9 +18,6 @@ Inv-loop p key a b w n turned₀ i₀ turned i = (n ≡ length key) × (i ≤ le
 
 abbrev μ-loop : tie.MeasureT-loop
 μ-loop p key a b w n turned₀ i₀ turned i = length key - i
-
-weights-of-requires : tie.Need-weights-of-requires Inv-loop μ-loop
-weights-of-requires c κs = tt
 
 loop-holds : tie.Need-loop-holds Inv-loop μ-loop
 loop-holds c = (refl, omega arith, sum-none _)
@@ -38,9 +34,6 @@ mul-weighted-2 c = let h = c .before .before .before .before .before .before .be
 shared-slice-read-weighted-2 : tie.Need-shared-slice-read-weighted-2 Inv-loop μ-loop
 shared-slice-read-weighted-2 c = let h = c .before .before .before .before .before .before .before .before .pre in let l = h .0 .long in omega arith
 
-weighted-requires : tie.Need-weighted-requires Inv-loop μ-loop
-weighted-requires c κs = tt
-
 mul-mul : tie.Need-mul-mul Inv-loop μ-loop
 mul-mul c = let h = c .before .before .before .before .before .before .before .before .before .pre in let l = h .0 .long in omega arith
 
@@ -49,12 +42,6 @@ shared-slice-read-mul c = let h = c .before .before .before .before .before .bef
 
 mask-steps-requires : tie.Need-mask-steps-requires Inv-loop μ-loop
 mask-steps-requires c κs = c .before .before .before .before .before .before .before .before .before .before .pre .0 .good
-
-mul-requires : tie.Need-mul-requires Inv-loop μ-loop
-mul-requires c κs = tt
-
-add-requires : tie.Need-add-requires Inv-loop μ-loop
-add-requires c κs = tt
 
 add-i : tie.Need-add-i Inv-loop μ-loop
 add-i c = let h = c .before .before .before .before .before .before .before .before .before .before .before .before .before .pre in let l = h .0 .long in omega arith
@@ -82,22 +69,5 @@ returns c =
 pub masks-turn-spec : {M : Type 1} → statement M
 masks-turn-spec =
     tie.close
-    (tie.spec
-    Inv-loop
-    μ-loop
-    weights-of-requires
-    loop-holds
-    mul-weighted
-    shared-slice-read-weighted
-    mul-weighted-2
-    shared-slice-read-weighted-2
-    weighted-requires
-    mul-mul
-    shared-slice-read-mul
-    mask-steps-requires
-    mul-requires
-    add-requires
-    add-i
-    loop-less
-    loop-again
-    returns)
+    (tie.spec Inv-loop μ-loop (λ c κs. tt) loop-holds mul-weighted shared-slice-read-weighted mul-weighted-2 shared-slice-read-weighted-2 (λ c κs. tt) mul-mul
+    shared-slice-read-mul mask-steps-requires (λ c κs. tt) (λ c κs. tt) add-i loop-less loop-again returns)

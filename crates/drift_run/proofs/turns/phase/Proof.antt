@@ -9,9 +9,6 @@ use borrow.Author.Needs.{needs}
 use Rattle.drift_run.proofs.turns.phase.Statement.{statement}
 use Rattle.drift_run.proofs.turns.phase.Tie as tie
 
-phase-of-requires : tie.Need-phase-of-requires
-phase-of-requires c κs = search needs
-
 returns : tie.Need-returns
 returns c =
     let s = c .before .before .before .before in
@@ -19,4 +16,5 @@ returns c =
     c .before .phase-of .ensures .1 ∙ when-done _ _ 0 (keyed-rest (s .args .p) Zero (length (s .args .c .now)) (s .args .key .now) 0 (h .0 .good) (h .1) (h .0 .long) (h .0 .bits))
 
 pub phase-spec : {M : Type 1} → statement M
-phase-spec = tie.close (tie.spec phase-of-requires returns)
+phase-spec = tie.close
+    (tie.spec (λ c κs. search needs) returns)

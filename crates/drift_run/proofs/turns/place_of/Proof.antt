@@ -22,18 +22,6 @@ turn c = let s = c .before .before .before .before .before in c .power .ensures 
 add-power : tie.Need-add-power
 add-power c = let r = in-range (c .before .before .before .before .args .p) (c .before .before .before .before .pre .0 .good) in let h = r .nbit-to in omega arith
 
-power-requires : tie.Need-power-requires
-power-requires c κs = search needs
-
-last-word-requires : tie.Need-last-word-requires
-last-word-requires c κs = search needs
-
-body-steps-requires : tie.Need-body-steps-requires
-body-steps-requires c κs = search needs
-
-masks-turn-requires : tie.Need-masks-turn-requires
-masks-turn-requires c κs = search needs
-
 rem-turned : tie.Need-rem-turned
 rem-turned c = turn-pos (c .before .before .before .before .before .before .before .before .args .p) (in-range (c .before .before .before .before .before .before .before .before .args .p) (c .before .before .before .before .before .before .before .before .pre .0 .good)) (turn (c .before .before .before))
 
@@ -63,15 +51,5 @@ returns c =
 pub place-of-spec : {M : Type 1} → statement M
 place-of-spec =
     tie.close
-    (tie.spec
-    add-power
-    power-requires
-    last-word-requires
-    body-steps-requires
-    masks-turn-requires
-    rem-turned
-    add-turned
-    rem-turned-2
-    sub-result
-    rem-result
-    returns)
+    (tie.spec add-power (λ c κs. search needs) (λ c κs. search needs) (λ c κs. search needs) (λ c κs. search needs) rem-turned add-turned rem-turned-2
+    sub-result rem-result returns)

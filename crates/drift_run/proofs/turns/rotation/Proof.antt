@@ -13,35 +13,8 @@ use borrow.Author.Needs.{needs}
 use Rattle.drift_run.proofs.turns.rotation.Statement.{statement}
 use Rattle.drift_run.proofs.turns.rotation.Tie as tie
 
-place-of-requires : tie.Need-place-of-requires
-place-of-requires c κs = search needs
-
 sub-power : tie.Need-sub-power
 sub-power c = let r = in-range (c .before .before .before .before .before .args .p) (c .before .before .before .before .before .pre .0 .good) in let h = r .nbit-to in omega arith
-
-power-requires : tie.Need-power-requires
-power-requires c κs = search needs
-
-mul-requires : tie.Need-mul-requires
-mul-requires c κs = search needs
-
-sum-phase-requires : tie.Need-sum-phase-requires
-sum-phase-requires c κs = search needs
-
-sub-requires : tie.Need-sub-requires
-sub-requires c κs = search needs
-
-weights-of-requires : tie.Need-weights-of-requires
-weights-of-requires c κs = search needs
-
-weighted-requires : tie.Need-weighted-requires
-weighted-requires c κs = search needs
-
-add-requires : tie.Need-add-requires
-add-requires c κs = search needs
-
-power-requires-2 : tie.Need-power-requires-2
-power-requires-2 c κs = search needs
 
 returns : tie.Need-returns
 unfolding sideOf
@@ -60,15 +33,5 @@ returns c =
 pub rotation-spec : {M : Type 1} → statement M
 rotation-spec =
     tie.close
-    (tie.spec
-    place-of-requires
-    sub-power
-    power-requires
-    mul-requires
-    sum-phase-requires
-    sub-requires
-    weights-of-requires
-    weighted-requires
-    add-requires
-    power-requires-2
-    returns)
+    (tie.spec (λ c κs. search needs) sub-power (λ c κs. search needs) (λ c κs. search needs) (λ c κs. search needs) (λ c κs. search needs)
+    (λ c κs. search needs) (λ c κs. search needs) (λ c κs. search needs) (λ c κs. search needs) returns)

@@ -10,21 +10,6 @@ use borrow.Author.Needs.{needs}
 use Rattle.drift_run.proofs.turns.sum_phase.Statement.{statement}
 use Rattle.drift_run.proofs.turns.sum_phase.Tie as tie
 
-weights-of-requires : tie.Need-weights-of-requires
-weights-of-requires c κs = search needs
-
-phase-requires : tie.Need-phase-requires
-phase-requires c κs = search needs
-
-phase-requires-2 : tie.Need-phase-requires-2
-phase-requires-2 c κs = search needs
-
-weighted-requires : tie.Need-weighted-requires
-weighted-requires c κs = search needs
-
-add-requires : tie.Need-add-requires
-add-requires c κs = search needs
-
 returns : tie.Need-returns
 returns c =
     let s = c .before .before .before .before .before .before .before .before in
@@ -39,10 +24,4 @@ returns c =
 pub sum-phase-spec : {M : Type 1} → statement M
 sum-phase-spec =
     tie.close
-    (tie.spec
-    weights-of-requires
-    phase-requires
-    phase-requires-2
-    weighted-requires
-    add-requires
-    returns)
+    (tie.spec (λ c κs. search needs) (λ c κs. search needs) (λ c κs. search needs) (λ c κs. search needs) (λ c κs. search needs) returns)

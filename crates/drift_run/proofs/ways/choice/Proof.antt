@@ -11,48 +11,6 @@ use borrow.Author.Needs.{needs}
 use Rattle.drift_run.proofs.ways.choice.Statement.{statement}
 use Rattle.drift_run.proofs.ways.choice.Tie as tie
 
-rotation-requires : tie.Need-rotation-requires
-rotation-requires c κs = search needs
-
-rotation-requires-2 : tie.Need-rotation-requires-2
-rotation-requires-2 c κs = search needs
-
-bit-word-requires : tie.Need-bit-word-requires
-bit-word-requires c κs = search needs
-
-bit-word-requires-2 : tie.Need-bit-word-requires-2
-bit-word-requires-2 c κs = search needs
-
-add-requires : tie.Need-add-requires
-add-requires c κs = search needs
-
-add-requires-2 : tie.Need-add-requires-2
-add-requires-2 c κs = search needs
-
-phase-requires : tie.Need-phase-requires
-phase-requires c κs = search needs
-
-sub-requires : tie.Need-sub-requires
-sub-requires c κs = search needs
-
-word-inside-requires : tie.Need-word-inside-requires
-word-inside-requires c κs = search needs
-
-word-inside-requires-2 : tie.Need-word-inside-requires-2
-word-inside-requires-2 c κs = search needs
-
-both-requires : tie.Need-both-requires
-both-requires c κs = search needs
-
-both-requires-2 : tie.Need-both-requires-2
-both-requires-2 c κs = search needs
-
-worse-requires : tie.Need-worse-requires
-worse-requires c κs = search needs
-
-worse-requires-2 : tie.Need-worse-requires-2
-worse-requires-2 c κs = search needs
-
 returns : tie.Need-returns
 unfolding shortWord carriedWord
 returns c =
@@ -64,19 +22,6 @@ returns c =
 pub choice-spec : {M : Type 1} → statement M
 choice-spec =
     tie.close
-    (tie.spec
-    rotation-requires
-    rotation-requires-2
-    bit-word-requires
-    bit-word-requires-2
-    add-requires
-    add-requires-2
-    phase-requires
-    sub-requires
-    word-inside-requires
-    word-inside-requires-2
-    both-requires
-    both-requires-2
-    worse-requires
-    worse-requires-2
-    returns)
+    (tie.spec (λ c κs. search needs) (λ c κs. search needs) (λ c κs. search needs) (λ c κs. search needs) (λ c κs. search needs) (λ c κs. search needs)
+    (λ c κs. search needs) (λ c κs. search needs) (λ c κs. search needs) (λ c κs. search needs) (λ c κs. search needs) (λ c κs. search needs)
+    (λ c κs. search needs) (λ c κs. search needs) returns)

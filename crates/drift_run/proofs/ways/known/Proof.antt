@@ -8,17 +8,12 @@ use borrow.Author.Needs.{needs}
 use Rattle.drift_run.proofs.ways.known.Statement.{statement}
 use Rattle.drift_run.proofs.ways.known.Tie as tie
 
-still-requires : tie.Need-still-requires
-still-requires c κs = search needs
-
 returns : tie.Need-returns
 returns c = c .still .ensures ∙ ap (λ (b : Bool). drifted (cond b 0 1) []) (sym (c .before .if1 .taken))
-
-still-requires-2 : tie.Need-still-requires-2
-still-requires-2 c κs = search needs
 
 returns-2 : tie.Need-returns-2
 returns-2 c = c .still2 .ensures ∙ ap (λ (b : Bool). drifted (cond b 0 1) []) (sym (c .before .if1 .left))
 
 pub known-spec : {M : Type 1} → statement M
-known-spec = tie.close (tie.spec still-requires returns still-requires-2 returns-2)
+known-spec = tie.close
+    (tie.spec (λ c κs. search needs) returns (λ c κs. search needs) returns-2)

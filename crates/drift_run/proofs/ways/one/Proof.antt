@@ -10,27 +10,6 @@ use borrow.Author.Needs.{needs}
 use Rattle.drift_run.proofs.ways.one.Statement.{statement}
 use Rattle.drift_run.proofs.ways.one.Tie as tie
 
-rotation-requires : tie.Need-rotation-requires
-rotation-requires c κs = search needs
-
-phase-requires : tie.Need-phase-requires
-phase-requires c κs = search needs
-
-bit-word-requires : tie.Need-bit-word-requires
-bit-word-requires c κs = search needs
-
-sub-requires : tie.Need-sub-requires
-sub-requires c κs = search needs
-
-word-inside-requires : tie.Need-word-inside-requires
-word-inside-requires c κs = search needs
-
-both-requires : tie.Need-both-requires
-both-requires c κs = search needs
-
-worse-requires : tie.Need-worse-requires
-worse-requires c κs = search needs
-
 returns : tie.Need-returns
 unfolding shortWord carriedWord
 returns c =
@@ -41,12 +20,5 @@ returns c =
 pub one-spec : {M : Type 1} → statement M
 one-spec =
     tie.close
-    (tie.spec
-    rotation-requires
-    phase-requires
-    bit-word-requires
-    sub-requires
-    word-inside-requires
-    both-requires
-    worse-requires
-    returns)
+    (tie.spec (λ c κs. search needs) (λ c κs. search needs) (λ c κs. search needs) (λ c κs. search needs) (λ c κs. search needs) (λ c κs. search needs)
+    (λ c κs. search needs) returns)

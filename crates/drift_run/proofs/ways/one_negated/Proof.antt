@@ -14,27 +14,6 @@ use borrow.Author.Needs.{needs}
 use Rattle.drift_run.proofs.ways.one_negated.Statement.{statement}
 use Rattle.drift_run.proofs.ways.one_negated.Tie as tie
 
-rotation-requires : tie.Need-rotation-requires
-rotation-requires c κs = search needs
-
-phase-requires : tie.Need-phase-requires
-phase-requires c κs = search needs
-
-bit-word-requires : tie.Need-bit-word-requires
-bit-word-requires c κs = search needs
-
-add-requires : tie.Need-add-requires
-add-requires c κs = search needs
-
-word-inside-requires : tie.Need-word-inside-requires
-word-inside-requires c κs = search needs
-
-both-requires : tie.Need-both-requires
-both-requires c κs = search needs
-
-worse-requires : tie.Need-worse-requires
-worse-requires c κs = search needs
-
 returns : tie.Need-returns
 unfolding shortWord carriedWord
 returns c =
@@ -45,12 +24,5 @@ returns c =
 pub one-negated-spec : {M : Type 1} → statement M
 one-negated-spec =
     tie.close
-    (tie.spec
-    rotation-requires
-    phase-requires
-    bit-word-requires
-    add-requires
-    word-inside-requires
-    both-requires
-    worse-requires
-    returns)
+    (tie.spec (λ c κs. search needs) (λ c κs. search needs) (λ c κs. search needs) (λ c κs. search needs) (λ c κs. search needs) (λ c κs. search needs)
+    (λ c κs. search needs) returns)

@@ -13,12 +13,10 @@ returns : tie.Need-returns
 unfolding centre H
 returns c = rw (lt-ltb (c .before .args .drift) 2147483648 (c .if1 .taken))
 
-negated-requires : tie.Need-negated-requires
-negated-requires c κs = search needs
-
 returns-2 : tie.Need-returns-2
 unfolding centre H Q neg
 returns-2 c = rw (le-ltb (c .before .before .args .drift) 2147483648 (omega arith)) (c .negated .ensures ∙ omega arith)
 
 pub size-of-spec : {M : Type 1} → statement M
-size-of-spec = tie.close (tie.spec returns negated-requires returns-2)
+size-of-spec = tie.close
+    (tie.spec returns (λ c κs. search needs) returns-2)

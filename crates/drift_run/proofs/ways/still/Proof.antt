@@ -1,7 +1,6 @@
 -- `drift_run::ways::still` meets its contract: nothing was brought in.
 -- Assumes nothing.
 use Rattle.drift_run.proofs.Told.{told-still}
-use borrow.Author.Needs.{needs}
 use Rattle.drift_run.proofs.ways.still.Statement.{statement}
 use Rattle.drift_run.proofs.ways.still.Tie as tie
 
@@ -9,4 +8,5 @@ returns : tie.Need-returns
 returns c = told-still (c .args .drift)
 
 pub still-spec : {M : Type 1} → statement M
-still-spec = tie.close (tie.spec returns)
+still-spec = tie.close
+    (tie.spec returns)

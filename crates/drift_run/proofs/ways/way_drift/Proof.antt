@@ -12,38 +12,8 @@ use borrow.Author.Needs.{needs}
 use Rattle.drift_run.proofs.ways.way_drift.Statement.{statement}
 use Rattle.drift_run.proofs.ways.way_drift.Tie as tie
 
-enum-known-way : tie.Need-enum-known-way
-enum-known-way c = search needs
-
-known-requires : tie.Need-known-requires
-known-requires c κs = search needs
-
 enum-told : tie.Need-enum-told
 enum-told c = search needs
-
-negated-requires : tie.Need-negated-requires
-negated-requires c κs = search needs
-
-still-requires : tie.Need-still-requires
-still-requires c κs = search needs
-
-enum-known-way-2 : tie.Need-enum-known-way-2
-enum-known-way-2 c = search needs
-
-one-requires : tie.Need-one-requires
-one-requires c κs = search needs
-
-enum-known-way-3 : tie.Need-enum-known-way-3
-enum-known-way-3 c = search needs
-
-one-negated-requires : tie.Need-one-negated-requires
-one-negated-requires c κs = search needs
-
-enum-told-2 : tie.Need-enum-told-2
-enum-told-2 c = search needs
-
-choice-requires : tie.Need-choice-requires
-choice-requires c κs = search needs
 
 returns : tie.Need-returns
 unfolding shortWord wayBroughtWords rotationsOf rotationSum
@@ -83,20 +53,5 @@ returns-5 c =
 pub way-drift-spec : {M : Type 1} → statement M
 way-drift-spec =
     tie.close
-    (tie.spec
-    enum-known-way
-    known-requires
-    enum-told
-    negated-requires
-    still-requires
-    enum-known-way-2
-    one-requires
-    enum-known-way-3
-    one-negated-requires
-    enum-told-2
-    choice-requires
-    returns
-    returns-2
-    returns-3
-    returns-4
-    returns-5)
+    (tie.spec (λ c. search needs) (λ c κs. search needs) enum-told (λ c κs. search needs) (λ c κs. search needs) (λ c. search needs) (λ c κs. search needs)
+    (λ c. search needs) (λ c κs. search needs) (λ c. search needs) (λ c κs. search needs) returns returns-2 returns-3 returns-4 returns-5)

@@ -9,12 +9,10 @@ use borrow.Author.Needs.{needs}
 use Rattle.drift_run.proofs.ways.word_inside.Statement.{statement}
 use Rattle.drift_run.proofs.ways.word_inside.Tie as tie
 
-size-of-requires : tie.Need-size-of-requires
-size-of-requires c κs = search needs
-
 returns : tie.Need-returns
 unfolding insideWord
 returns c = ap (λ (x : ℕ). ltb x eighth) (c .size-of .ensures)
 
 pub word-inside-spec : {M : Type 1} → statement M
-word-inside-spec = tie.close (tie.spec size-of-requires returns)
+word-inside-spec = tie.close
+    (tie.spec (λ c κs. search needs) returns)

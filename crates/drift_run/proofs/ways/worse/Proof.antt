@@ -11,12 +11,6 @@ use borrow.Author.Needs.{needs}
 use Rattle.drift_run.proofs.ways.worse.Statement.{statement}
 use Rattle.drift_run.proofs.ways.worse.Tie as tie
 
-size-of-requires : tie.Need-size-of-requires
-size-of-requires c κs = search needs
-
-size-of-requires-2 : tie.Need-size-of-requires-2
-size-of-requires-2 c κs = search needs
-
 returns : tie.Need-returns
 unfolding worseWord
 returns c =
@@ -32,4 +26,5 @@ returns-2 c =
     sym (ap (λ (b : Bool). cond b (g .y) (g .x)) (le-ltb _ _ t))
 
 pub worse-spec : {M : Type 1} → statement M
-worse-spec = tie.close (tie.spec size-of-requires size-of-requires-2 returns returns-2)
+worse-spec = tie.close
+    (tie.spec (λ c κs. search needs) (λ c κs. search needs) returns returns-2)

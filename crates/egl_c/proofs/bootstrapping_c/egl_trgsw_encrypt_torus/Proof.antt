@@ -6,18 +6,10 @@ use borrow.Author.Needs.{needs}
 use Rattle.egl_c.proofs.bootstrapping_c.egl_trgsw_encrypt_torus.Statement.{statement}
 use Rattle.egl_c.proofs.bootstrapping_c.egl_trgsw_encrypt_torus.Tie as tie
 
-encrypt-torus-requires : tie.Need-encrypt-torus-requires
-encrypt-torus-requires c κs = search needs
-
-pack-requires : tie.Need-pack-requires
-pack-requires c κs = search needs
-
-same-length : tie.Need-same-length
-same-length c = search needs
-
 returns : tie.Need-returns
 returns c = (c .pack .ensures ∙ ap packed (c .before .before .before .encrypt-torus .ensures .0), c .before .before .before .encrypt-torus .ensures .1)
 
 pub egl-trgsw-encrypt-torus-spec : {M : Type 1} → statement M
 egl-trgsw-encrypt-torus-spec =
-    tie.close (tie.spec encrypt-torus-requires pack-requires same-length returns)
+    tie.close
+    (tie.spec (λ c κs. search needs) (λ c κs. search needs) (λ c. search needs) returns)

@@ -8,18 +8,10 @@ use Rattle.egl_c.proofs.bootstrapping_c.egl_trgsw_gen_bootstrapping_key
 }
 use Rattle.egl_c.proofs.bootstrapping_c.egl_trgsw_gen_bootstrapping_key.Tie as tie
 
-gen-bootstrapping-key-requires : tie.Need-gen-bootstrapping-key-requires
-gen-bootstrapping-key-requires c κs = search needs
-
-pack-requires : tie.Need-pack-requires
-pack-requires c κs = search needs
-
-same-length : tie.Need-same-length
-same-length c = search needs
-
 returns : tie.Need-returns
 returns c = (c .pack .ensures ∙ ap packed (c .before .before .before .gen-bootstrapping-key .ensures .0), c .before .before .before .gen-bootstrapping-key .ensures .1)
 
 pub egl-trgsw-gen-bootstrapping-key-spec : {M : Type 1} → statement M
 egl-trgsw-gen-bootstrapping-key-spec =
-    tie.close (tie.spec gen-bootstrapping-key-requires pack-requires same-length returns)
+    tie.close
+    (tie.spec (λ c κs. search needs) (λ c κs. search needs) (λ c. search needs) returns)

@@ -6,18 +6,10 @@ use borrow.Author.Needs.{needs}
 use Rattle.egl_c.proofs.circuit_c.egl_circuit_counts.Statement.{statement}
 use Rattle.egl_c.proofs.circuit_c.egl_circuit_counts.Tie as tie
 
-tell-requires : tie.Need-tell-requires
-tell-requires c κs = search needs
-
-pack-requires : tie.Need-pack-requires
-pack-requires c κs = search needs
-
-same-length : tie.Need-same-length
-same-length c = search needs
-
 returns : tie.Need-returns
 returns c = (c .pack .ensures ∙ ap packed (c .before .before .before .tell .ensures .0), c .before .before .before .tell .ensures .1)
 
 pub egl-circuit-counts-spec : {M : Type 1} → statement M
 egl-circuit-counts-spec =
-    tie.close (tie.spec tell-requires pack-requires same-length returns)
+    tie.close
+    (tie.spec (λ c κs. search needs) (λ c κs. search needs) (λ c. search needs) returns)

@@ -6,18 +6,10 @@ use borrow.Author.Needs.{needs}
 use Rattle.egl_c.proofs.circuit_c.egl_circuit_run_plain.Statement.{statement}
 use Rattle.egl_c.proofs.circuit_c.egl_circuit_run_plain.Tie as tie
 
-run-plain-requires : tie.Need-run-plain-requires
-run-plain-requires c κs = search needs
-
-pack-requires : tie.Need-pack-requires
-pack-requires c κs = search needs
-
-same-length : tie.Need-same-length
-same-length c = search needs
-
 returns : tie.Need-returns
 returns c = (c .pack .ensures ∙ ap packed (c .before .before .before .run-plain .ensures .0), c .before .before .before .run-plain .ensures .1)
 
 pub egl-circuit-run-plain-spec : {M : Type 1} → statement M
 egl-circuit-run-plain-spec =
-    tie.close (tie.spec run-plain-requires pack-requires same-length returns)
+    tie.close
+    (tie.spec (λ c κs. search needs) (λ c κs. search needs) (λ c. search needs) returns)

@@ -6,12 +6,6 @@ use borrow.Author.Needs.{needs}
 use Rattle.egl_c.proofs.drift_c.egl_drift_gate.Statement.{statement}
 use Rattle.egl_c.proofs.drift_c.egl_drift_gate.Tie as tie
 
-drift-gate-requires : tie.Need-drift-gate-requires
-drift-gate-requires c κs = search needs
-
-pack-told-requires : tie.Need-pack-told-requires
-pack-told-requires c κs = search needs
-
 same-length : tie.Need-same-length
 same-length c = c .before .before .before .before .before .before .wires .given
 
@@ -25,4 +19,5 @@ returns c =
 
 pub egl-drift-gate-spec : {M : Type 1} → statement M
 egl-drift-gate-spec =
-    tie.close (tie.spec drift-gate-requires pack-told-requires same-length same-length-2 returns)
+    tie.close
+    (tie.spec (λ c κs. search needs) (λ c κs. search needs) same-length same-length-2 returns)

@@ -6,14 +6,9 @@ use borrow.Author.Needs.{needs}
 use Rattle.egl_c.proofs.drift_c.egl_drift_inside.Statement.{statement}
 use Rattle.egl_c.proofs.drift_c.egl_drift_inside.Tie as tie
 
-is-inside-requires : tie.Need-is-inside-requires
-is-inside-requires c κs = search needs
-
-bit-number-requires : tie.Need-bit-number-requires
-bit-number-requires c κs = search needs
-
 returns : tie.Need-returns
 returns c = c .bit-number .ensures ∙ ap bitNumber (c .before .is-inside .ensures)
 
 pub egl-drift-inside-spec : {M : Type 1} → statement M
-egl-drift-inside-spec = tie.close (tie.spec is-inside-requires bit-number-requires returns)
+egl-drift-inside-spec = tie.close
+    (tie.spec (λ c κs. search needs) (λ c κs. search needs) returns)

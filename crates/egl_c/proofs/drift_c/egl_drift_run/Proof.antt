@@ -6,15 +6,6 @@ use borrow.Author.Needs.{needs}
 use Rattle.egl_c.proofs.drift_c.egl_drift_run.Statement.{statement}
 use Rattle.egl_c.proofs.drift_c.egl_drift_run.Tie as tie
 
-drift-run-requires : tie.Need-drift-run-requires
-drift-run-requires c κs = search needs
-
-bit-number-requires : tie.Need-bit-number-requires
-bit-number-requires c κs = search needs
-
-pack-told-requires : tie.Need-pack-told-requires
-pack-told-requires c κs = search needs
-
 same-length : tie.Need-same-length
 same-length c = c .before .before .before .before .before .before .before .before .wires .given
 
@@ -34,11 +25,4 @@ returns c =
 pub egl-drift-run-spec : {M : Type 1} → statement M
 egl-drift-run-spec =
     tie.close
-    (tie.spec
-    drift-run-requires
-    bit-number-requires
-    pack-told-requires
-    same-length
-    same-length-2
-    same-length-3
-    returns)
+    (tie.spec (λ c κs. search needs) (λ c κs. search needs) (λ c κs. search needs) same-length same-length-2 same-length-3 returns)

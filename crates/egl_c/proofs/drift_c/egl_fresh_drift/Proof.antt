@@ -6,14 +6,9 @@ use borrow.Author.Needs.{needs}
 use Rattle.egl_c.proofs.drift_c.egl_fresh_drift.Statement.{statement}
 use Rattle.egl_c.proofs.drift_c.egl_fresh_drift.Tie as tie
 
-fresh-drift-requires : tie.Need-fresh-drift-requires
-fresh-drift-requires c κs = search needs
-
-pack-with-requires : tie.Need-pack-with-requires
-pack-with-requires c κs = search needs
-
 returns : tie.Need-returns
 returns c = let e = c .before .before .before .fresh-drift .ensures in c .pack-with .ensures ∙ ap₂ packedWith (e .0) (e .1)
 
 pub egl-fresh-drift-spec : {M : Type 1} → statement M
-egl-fresh-drift-spec = tie.close (tie.spec fresh-drift-requires pack-with-requires returns)
+egl-fresh-drift-spec = tie.close
+    (tie.spec (λ c κs. search needs) (λ c κs. search needs) returns)

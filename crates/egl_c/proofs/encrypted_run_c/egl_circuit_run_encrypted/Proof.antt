@@ -6,21 +6,10 @@ use borrow.Author.Needs.{needs}
 use Rattle.egl_c.proofs.encrypted_run_c.egl_circuit_run_encrypted.Statement.{statement}
 use Rattle.egl_c.proofs.encrypted_run_c.egl_circuit_run_encrypted.Tie as tie
 
-run-encrypted-requires : tie.Need-run-encrypted-requires
-run-encrypted-requires c κs = search needs
-
-pack-requires : tie.Need-pack-requires
-pack-requires c κs = search needs
-
-same-length : tie.Need-same-length
-same-length c = search needs
-
-same-length-2 : tie.Need-same-length-2
-same-length-2 c = search needs
-
 returns : tie.Need-returns
 returns c = let r = c .before .before .before .before .before .run-encrypted .ensures in (c .pack .ensures ∙ ap packed (r .0), r .1)
 
 pub egl-circuit-run-encrypted-spec : {M : Type 1} → statement M
 egl-circuit-run-encrypted-spec =
-    tie.close (tie.spec run-encrypted-requires pack-requires same-length same-length-2 returns)
+    tie.close
+    (tie.spec (λ c κs. search needs) (λ c κs. search needs) (λ c. search needs) (λ c. search needs) returns)

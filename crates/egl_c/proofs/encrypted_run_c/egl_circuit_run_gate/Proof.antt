@@ -6,18 +6,10 @@ use borrow.Author.Needs.{needs}
 use Rattle.egl_c.proofs.encrypted_run_c.egl_circuit_run_gate.Statement.{statement}
 use Rattle.egl_c.proofs.encrypted_run_c.egl_circuit_run_gate.Tie as tie
 
-run-gate-requires : tie.Need-run-gate-requires
-run-gate-requires c κs = search needs
-
-pack-requires : tie.Need-pack-requires
-pack-requires c κs = search needs
-
-same-length : tie.Need-same-length
-same-length c = search needs
-
 returns : tie.Need-returns
 returns c = (c .pack .ensures ∙ ap packed (c .before .before .before .run-gate .ensures .0), c .before .before .before .run-gate .ensures .1)
 
 pub egl-circuit-run-gate-spec : {M : Type 1} → statement M
 egl-circuit-run-gate-spec =
-    tie.close (tie.spec run-gate-requires pack-requires same-length returns)
+    tie.close
+    (tie.spec (λ c κs. search needs) (λ c κs. search needs) (λ c. search needs) returns)

@@ -6,17 +6,9 @@ use borrow.Author.Needs.{needs}
 use Rattle.egl_c.proofs.gates_c.egl_gates_and_ny.Statement.{statement}
 use Rattle.egl_c.proofs.gates_c.egl_gates_and_ny.Tie as tie
 
-and-ny-requires : tie.Need-and-ny-requires
-and-ny-requires c κs = search needs
-
-pack-requires : tie.Need-pack-requires
-pack-requires c κs = search needs
-
-same-length : tie.Need-same-length
-same-length c = search needs
-
 returns : tie.Need-returns
 returns c = (c .pack .ensures ∙ ap packed (c .before .before .before .and-ny .ensures .0), c .before .before .before .and-ny .ensures .1)
 
 pub egl-gates-and-ny-spec : {M : Type 1} → statement M
-egl-gates-and-ny-spec = tie.close (tie.spec and-ny-requires pack-requires same-length returns)
+egl-gates-and-ny-spec = tie.close
+    (tie.spec (λ c κs. search needs) (λ c κs. search needs) (λ c. search needs) returns)

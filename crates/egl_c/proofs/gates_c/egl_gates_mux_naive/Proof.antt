@@ -6,18 +6,10 @@ use borrow.Author.Needs.{needs}
 use Rattle.egl_c.proofs.gates_c.egl_gates_mux_naive.Statement.{statement}
 use Rattle.egl_c.proofs.gates_c.egl_gates_mux_naive.Tie as tie
 
-mux-naive-requires : tie.Need-mux-naive-requires
-mux-naive-requires c κs = search needs
-
-pack-requires : tie.Need-pack-requires
-pack-requires c κs = search needs
-
-same-length : tie.Need-same-length
-same-length c = search needs
-
 returns : tie.Need-returns
 returns c = (c .pack .ensures ∙ ap packed (c .before .before .before .mux-naive .ensures .0), c .before .before .before .mux-naive .ensures .1)
 
 pub egl-gates-mux-naive-spec : {M : Type 1} → statement M
 egl-gates-mux-naive-spec =
-    tie.close (tie.spec mux-naive-requires pack-requires same-length returns)
+    tie.close
+    (tie.spec (λ c κs. search needs) (λ c κs. search needs) (λ c. search needs) returns)

@@ -6,17 +6,9 @@ use borrow.Author.Needs.{needs}
 use Rattle.egl_c.proofs.gates_c.egl_gates_or_ny.Statement.{statement}
 use Rattle.egl_c.proofs.gates_c.egl_gates_or_ny.Tie as tie
 
-or-ny-requires : tie.Need-or-ny-requires
-or-ny-requires c κs = search needs
-
-pack-requires : tie.Need-pack-requires
-pack-requires c κs = search needs
-
-same-length : tie.Need-same-length
-same-length c = search needs
-
 returns : tie.Need-returns
 returns c = (c .pack .ensures ∙ ap packed (c .before .before .before .or-ny .ensures .0), c .before .before .before .or-ny .ensures .1)
 
 pub egl-gates-or-ny-spec : {M : Type 1} → statement M
-egl-gates-or-ny-spec = tie.close (tie.spec or-ny-requires pack-requires same-length returns)
+egl-gates-or-ny-spec = tie.close
+    (tie.spec (λ c κs. search needs) (λ c κs. search needs) (λ c. search needs) returns)

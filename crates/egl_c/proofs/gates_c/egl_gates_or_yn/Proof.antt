@@ -6,17 +6,9 @@ use borrow.Author.Needs.{needs}
 use Rattle.egl_c.proofs.gates_c.egl_gates_or_yn.Statement.{statement}
 use Rattle.egl_c.proofs.gates_c.egl_gates_or_yn.Tie as tie
 
-or-yn-requires : tie.Need-or-yn-requires
-or-yn-requires c κs = search needs
-
-pack-requires : tie.Need-pack-requires
-pack-requires c κs = search needs
-
-same-length : tie.Need-same-length
-same-length c = search needs
-
 returns : tie.Need-returns
 returns c = (c .pack .ensures ∙ ap packed (c .before .before .before .or-yn .ensures .0), c .before .before .before .or-yn .ensures .1)
 
 pub egl-gates-or-yn-spec : {M : Type 1} → statement M
-egl-gates-or-yn-spec = tie.close (tie.spec or-yn-requires pack-requires same-length returns)
+egl-gates-or-yn-spec = tie.close
+    (tie.spec (λ c κs. search needs) (λ c κs. search needs) (λ c. search needs) returns)

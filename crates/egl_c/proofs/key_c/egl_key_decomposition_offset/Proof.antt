@@ -7,15 +7,10 @@ use borrow.Author.Needs.{needs}
 use Rattle.egl_c.proofs.key_c.egl_key_decomposition_offset.Statement.{statement}
 use Rattle.egl_c.proofs.key_c.egl_key_decomposition_offset.Tie as tie
 
-decomposition-offset-requires : tie.Need-decomposition-offset-requires
-decomposition-offset-requires c κs = search needs
-
-pack-with-requires : tie.Need-pack-with-requires
-pack-with-requires c κs = search needs
-
 returns : tie.Need-returns
 returns c = c .pack-with .ensures ∙ ap (λ (x : Offset). packedWith (x .answer) (x .value .0)) (c .before .before .before .decomposition-offset .ensures)
 
 pub egl-key-decomposition-offset-spec : {M : Type 1} → statement M
 egl-key-decomposition-offset-spec =
-    tie.close (tie.spec decomposition-offset-requires pack-with-requires returns)
+    tie.close
+    (tie.spec (λ c κs. search needs) (λ c κs. search needs) returns)

@@ -6,18 +6,10 @@ use borrow.Author.Needs.{needs}
 use Rattle.egl_c.proofs.key_c.egl_key_gen_key_switching_key.Statement.{statement}
 use Rattle.egl_c.proofs.key_c.egl_key_gen_key_switching_key.Tie as tie
 
-gen-key-switching-key-requires : tie.Need-gen-key-switching-key-requires
-gen-key-switching-key-requires c κs = search needs
-
-pack-requires : tie.Need-pack-requires
-pack-requires c κs = search needs
-
-same-length : tie.Need-same-length
-same-length c = search needs
-
 returns : tie.Need-returns
 returns c = (c .pack .ensures ∙ ap packed (c .before .before .before .gen-key-switching-key .ensures .0), c .before .before .before .gen-key-switching-key .ensures .1)
 
 pub egl-key-gen-key-switching-key-spec : {M : Type 1} → statement M
 egl-key-gen-key-switching-key-spec =
-    tie.close (tie.spec gen-key-switching-key-requires pack-requires same-length returns)
+    tie.close
+    (tie.spec (λ c κs. search needs) (λ c κs. search needs) (λ c. search needs) returns)

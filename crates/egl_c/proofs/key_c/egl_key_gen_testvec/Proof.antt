@@ -6,21 +6,10 @@ use borrow.Author.Needs.{needs}
 use Rattle.egl_c.proofs.key_c.egl_key_gen_testvec.Statement.{statement}
 use Rattle.egl_c.proofs.key_c.egl_key_gen_testvec.Tie as tie
 
-gen-testvec-requires : tie.Need-gen-testvec-requires
-gen-testvec-requires c κs = search needs
-
-pack-requires : tie.Need-pack-requires
-pack-requires c κs = search needs
-
-same-length : tie.Need-same-length
-same-length c = search needs
-
-same-length-2 : tie.Need-same-length-2
-same-length-2 c = search needs
-
 returns : tie.Need-returns
 returns c = (c .pack .ensures ∙ ap packed (c .before .before .before .before .before .gen-testvec .ensures .0), c .before .before .before .before .before .gen-testvec .ensures .1)
 
 pub egl-key-gen-testvec-spec : {M : Type 1} → statement M
 egl-key-gen-testvec-spec =
-    tie.close (tie.spec gen-testvec-requires pack-requires same-length same-length-2 returns)
+    tie.close
+    (tie.spec (λ c κs. search needs) (λ c κs. search needs) (λ c. search needs) (λ c. search needs) returns)

@@ -7,15 +7,10 @@ use borrow.Author.Needs.{needs}
 use Rattle.egl_c.proofs.key_c.egl_key_row_index.Statement.{statement}
 use Rattle.egl_c.proofs.key_c.egl_key_row_index.Tie as tie
 
-row-index-requires : tie.Need-row-index-requires
-row-index-requires c κs = search needs
-
-pack-with-requires : tie.Need-pack-with-requires
-pack-with-requires c κs = search needs
-
 returns : tie.Need-returns
 returns c = c .pack-with .ensures ∙ ap (λ (x : RowPlace). packedWith (x .answer) (x .value)) (c .before .before .row-index .ensures)
 
 pub egl-key-row-index-spec : {M : Type 1} → statement M
 egl-key-row-index-spec =
-    tie.close (tie.spec row-index-requires pack-with-requires returns)
+    tie.close
+    (tie.spec (λ c κs. search needs) (λ c κs. search needs) returns)

@@ -6,15 +6,10 @@ use borrow.Author.Needs.{needs}
 use Rattle.egl_c.proofs.key_c.egl_key_switching_row_answer.Statement.{statement}
 use Rattle.egl_c.proofs.key_c.egl_key_switching_row_answer.Tie as tie
 
-switching-row-answer-requires : tie.Need-switching-row-answer-requires
-switching-row-answer-requires c κs = search needs
-
-pack-requires : tie.Need-pack-requires
-pack-requires c κs = search needs
-
 returns : tie.Need-returns
 returns c = c .pack .ensures ∙ ap packed (c .before .switching-row-answer .ensures)
 
 pub egl-key-switching-row-answer-spec : {M : Type 1} → statement M
 egl-key-switching-row-answer-spec =
-    tie.close (tie.spec switching-row-answer-requires pack-requires returns)
+    tie.close
+    (tie.spec (λ c κs. search needs) (λ c κs. search needs) returns)

@@ -6,18 +6,10 @@ use borrow.Author.Needs.{needs}
 use Rattle.egl_c.proofs.product_c.egl_product_poly_mul.Statement.{statement}
 use Rattle.egl_c.proofs.product_c.egl_product_poly_mul.Tie as tie
 
-poly-mul-requires : tie.Need-poly-mul-requires
-poly-mul-requires c κs = search needs
-
-pack-requires : tie.Need-pack-requires
-pack-requires c κs = search needs
-
-same-length : tie.Need-same-length
-same-length c = search needs
-
 returns : tie.Need-returns
 returns c = (c .pack .ensures ∙ ap packed (c .before .before .before .poly-mul .ensures .0), c .before .before .before .poly-mul .ensures .1)
 
 pub egl-product-poly-mul-spec : {M : Type 1} → statement M
 egl-product-poly-mul-spec =
-    tie.close (tie.spec poly-mul-requires pack-requires same-length returns)
+    tie.close
+    (tie.spec (λ c κs. search needs) (λ c κs. search needs) (λ c. search needs) returns)

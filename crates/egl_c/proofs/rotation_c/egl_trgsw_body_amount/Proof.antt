@@ -7,14 +7,9 @@ use borrow.Author.Needs.{needs}
 use Rattle.egl_c.proofs.rotation_c.egl_trgsw_body_amount.Statement.{statement}
 use Rattle.egl_c.proofs.rotation_c.egl_trgsw_body_amount.Tie as tie
 
-body-amount-requires : tie.Need-body-amount-requires
-body-amount-requires c κs = search needs
-
-pack-with-requires : tie.Need-pack-with-requires
-pack-with-requires c κs = search needs
-
 returns : tie.Need-returns
 returns c = c .pack-with .ensures ∙ ap (λ (x : Rounded). packedWith (x .answer) (x .amount .0)) (c .before .before .before .body-amount .ensures)
 
 pub egl-trgsw-body-amount-spec : {M : Type 1} → statement M
-egl-trgsw-body-amount-spec = tie.close (tie.spec body-amount-requires pack-with-requires returns)
+egl-trgsw-body-amount-spec = tie.close
+    (tie.spec (λ c κs. search needs) (λ c κs. search needs) returns)

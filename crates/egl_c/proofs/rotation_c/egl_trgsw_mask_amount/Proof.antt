@@ -7,14 +7,9 @@ use borrow.Author.Needs.{needs}
 use Rattle.egl_c.proofs.rotation_c.egl_trgsw_mask_amount.Statement.{statement}
 use Rattle.egl_c.proofs.rotation_c.egl_trgsw_mask_amount.Tie as tie
 
-mask-amount-requires : tie.Need-mask-amount-requires
-mask-amount-requires c κs = search needs
-
-pack-with-requires : tie.Need-pack-with-requires
-pack-with-requires c κs = search needs
-
 returns : tie.Need-returns
 returns c = c .pack-with .ensures ∙ ap (λ (x : Rounded). packedWith (x .answer) (x .amount .0)) (c .before .before .before .mask-amount .ensures)
 
 pub egl-trgsw-mask-amount-spec : {M : Type 1} → statement M
-egl-trgsw-mask-amount-spec = tie.close (tie.spec mask-amount-requires pack-with-requires returns)
+egl-trgsw-mask-amount-spec = tie.close
+    (tie.spec (λ c κs. search needs) (λ c κs. search needs) returns)

@@ -6,18 +6,10 @@ use borrow.Author.Needs.{needs}
 use Rattle.egl_c.proofs.rotation_c.egl_trgsw_poly_mul_with_x_k.Statement.{statement}
 use Rattle.egl_c.proofs.rotation_c.egl_trgsw_poly_mul_with_x_k.Tie as tie
 
-poly-mul-with-x-k-requires : tie.Need-poly-mul-with-x-k-requires
-poly-mul-with-x-k-requires c κs = search needs
-
-pack-requires : tie.Need-pack-requires
-pack-requires c κs = search needs
-
-same-length : tie.Need-same-length
-same-length c = search needs
-
 returns : tie.Need-returns
 returns c = (c .pack .ensures ∙ ap packed (c .before .before .before .poly-mul-with-x-k .ensures .0), c .before .before .before .poly-mul-with-x-k .ensures .1)
 
 pub egl-trgsw-poly-mul-with-x-k-spec : {M : Type 1} → statement M
 egl-trgsw-poly-mul-with-x-k-spec =
-    tie.close (tie.spec poly-mul-with-x-k-requires pack-requires same-length returns)
+    tie.close
+    (tie.spec (λ c κs. search needs) (λ c κs. search needs) (λ c. search needs) returns)

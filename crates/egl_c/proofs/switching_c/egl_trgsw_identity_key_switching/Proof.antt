@@ -6,18 +6,10 @@ use borrow.Author.Needs.{needs}
 use Rattle.egl_c.proofs.switching_c.egl_trgsw_identity_key_switching.Statement.{statement}
 use Rattle.egl_c.proofs.switching_c.egl_trgsw_identity_key_switching.Tie as tie
 
-identity-key-switching-requires : tie.Need-identity-key-switching-requires
-identity-key-switching-requires c κs = search needs
-
-pack-requires : tie.Need-pack-requires
-pack-requires c κs = search needs
-
-same-length : tie.Need-same-length
-same-length c = search needs
-
 returns : tie.Need-returns
 returns c = (c .pack .ensures ∙ ap packed (c .before .before .before .identity-key-switching .ensures .0), c .before .before .before .identity-key-switching .ensures .1)
 
 pub egl-trgsw-identity-key-switching-spec : {M : Type 1} → statement M
 egl-trgsw-identity-key-switching-spec =
-    tie.close (tie.spec identity-key-switching-requires pack-requires same-length returns)
+    tie.close
+    (tie.spec (λ c κs. search needs) (λ c κs. search needs) (λ c. search needs) returns)

@@ -6,18 +6,10 @@ use borrow.Author.Needs.{needs}
 use Rattle.egl_c.proofs.tlwe_encryption_c.egl_tlwe_encrypt_turn_lv0.Statement.{statement}
 use Rattle.egl_c.proofs.tlwe_encryption_c.egl_tlwe_encrypt_turn_lv0.Tie as tie
 
-encrypt-requires : tie.Need-encrypt-requires
-encrypt-requires c κs = search needs
-
-pack-requires : tie.Need-pack-requires
-pack-requires c κs = search needs
-
-same-length : tie.Need-same-length
-same-length c = search needs
-
 returns : tie.Need-returns
 returns c = (c .pack .ensures ∙ ap packed (c .before .before .before .encrypt .ensures .0), c .before .before .before .encrypt .ensures .1)
 
 pub egl-tlwe-encrypt-turn-lv0-spec : {M : Type 1} → statement M
 egl-tlwe-encrypt-turn-lv0-spec =
-    tie.close (tie.spec encrypt-requires pack-requires same-length returns)
+    tie.close
+    (tie.spec (λ c κs. search needs) (λ c κs. search needs) (λ c. search needs) returns)

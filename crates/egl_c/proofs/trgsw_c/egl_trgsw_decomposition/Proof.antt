@@ -6,18 +6,10 @@ use borrow.Author.Needs.{needs}
 use Rattle.egl_c.proofs.trgsw_c.egl_trgsw_decomposition.Statement.{statement}
 use Rattle.egl_c.proofs.trgsw_c.egl_trgsw_decomposition.Tie as tie
 
-decomposition-requires : tie.Need-decomposition-requires
-decomposition-requires c κs = search needs
-
-pack-requires : tie.Need-pack-requires
-pack-requires c κs = search needs
-
-same-length : tie.Need-same-length
-same-length c = search needs
-
 returns : tie.Need-returns
 returns c = (c .pack .ensures ∙ ap packed (c .before .before .before .decomposition .ensures .0), c .before .before .before .decomposition .ensures .1)
 
 pub egl-trgsw-decomposition-spec : {M : Type 1} → statement M
 egl-trgsw-decomposition-spec =
-    tie.close (tie.spec decomposition-requires pack-requires same-length returns)
+    tie.close
+    (tie.spec (λ c κs. search needs) (λ c κs. search needs) (λ c. search needs) returns)

@@ -6,21 +6,10 @@ use borrow.Author.Needs.{needs}
 use Rattle.egl_c.proofs.trgsw_c.egl_trgsw_external_product.Statement.{statement}
 use Rattle.egl_c.proofs.trgsw_c.egl_trgsw_external_product.Tie as tie
 
-external-product-requires : tie.Need-external-product-requires
-external-product-requires c κs = search needs
-
-pack-requires : tie.Need-pack-requires
-pack-requires c κs = search needs
-
-same-length : tie.Need-same-length
-same-length c = search needs
-
-same-length-2 : tie.Need-same-length-2
-same-length-2 c = search needs
-
 returns : tie.Need-returns
 returns c = (c .pack .ensures ∙ ap packed (c .before .before .before .before .before .external-product .ensures .0), c .before .before .before .before .before .external-product .ensures .1)
 
 pub egl-trgsw-external-product-spec : {M : Type 1} → statement M
 egl-trgsw-external-product-spec =
-    tie.close (tie.spec external-product-requires pack-requires same-length same-length-2 returns)
+    tie.close
+    (tie.spec (λ c κs. search needs) (λ c κs. search needs) (λ c. search needs) (λ c. search needs) returns)

@@ -6,18 +6,10 @@ use borrow.Author.Needs.{needs}
 use Rattle.egl_c.proofs.trlwe_c.egl_trlwe_sample_extract_index.Statement.{statement}
 use Rattle.egl_c.proofs.trlwe_c.egl_trlwe_sample_extract_index.Tie as tie
 
-sample-extract-index-requires : tie.Need-sample-extract-index-requires
-sample-extract-index-requires c κs = search needs
-
-pack-requires : tie.Need-pack-requires
-pack-requires c κs = search needs
-
-same-length : tie.Need-same-length
-same-length c = search needs
-
 returns : tie.Need-returns
 returns c = (c .pack .ensures ∙ ap packed (c .before .before .before .sample-extract-index .ensures .0), c .before .before .before .sample-extract-index .ensures .1)
 
 pub egl-trlwe-sample-extract-index-spec : {M : Type 1} → statement M
 egl-trlwe-sample-extract-index-spec =
-    tie.close (tie.spec sample-extract-index-requires pack-requires same-length returns)
+    tie.close
+    (tie.spec (λ c κs. search needs) (λ c κs. search needs) (λ c. search needs) returns)

@@ -6,17 +6,9 @@ use borrow.Author.Needs.{needs}
 use Rattle.egl_c.proofs.wires_c.egl_gates_constant.Statement.{statement}
 use Rattle.egl_c.proofs.wires_c.egl_gates_constant.Tie as tie
 
-constant-requires : tie.Need-constant-requires
-constant-requires c κs = search needs
-
-pack-requires : tie.Need-pack-requires
-pack-requires c κs = search needs
-
-same-length : tie.Need-same-length
-same-length c = search needs
-
 returns : tie.Need-returns
 returns c = (c .pack .ensures ∙ ap packed (c .before .before .before .constant .ensures .0), c .before .before .before .constant .ensures .1)
 
 pub egl-gates-constant-spec : {M : Type 1} → statement M
-egl-gates-constant-spec = tie.close (tie.spec constant-requires pack-requires same-length returns)
+egl-gates-constant-spec = tie.close
+    (tie.spec (λ c κs. search needs) (λ c κs. search needs) (λ c. search needs) returns)

@@ -6,17 +6,9 @@ use borrow.Author.Needs.{needs}
 use Rattle.egl_c.proofs.wires_c.egl_gates_not.Statement.{statement}
 use Rattle.egl_c.proofs.wires_c.egl_gates_not.Tie as tie
 
-not-requires : tie.Need-not-requires
-not-requires c κs = search needs
-
-pack-requires : tie.Need-pack-requires
-pack-requires c κs = search needs
-
-same-length : tie.Need-same-length
-same-length c = search needs
-
 returns : tie.Need-returns
 returns c = (c .pack .ensures ∙ ap packed (c .before .before .before .not .ensures .0), c .before .before .before .not .ensures .1)
 
 pub egl-gates-not-spec : {M : Type 1} → statement M
-egl-gates-not-spec = tie.close (tie.spec not-requires pack-requires same-length returns)
+egl-gates-not-spec = tie.close
+    (tie.spec (λ c κs. search needs) (λ c κs. search needs) (λ c. search needs) returns)

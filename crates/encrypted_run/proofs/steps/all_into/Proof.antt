@@ -29,9 +29,6 @@ fits s =
     let l : inputs b ≤ wires b = omega arith in
     rw (s .pre .wires-length) (mul-le-mul-right (s .args .p .n + 1) l)
 
-counts-requires : tie.Need-counts-requires Inv-loop μ-loop
-counts-requires c κs = search needs
-
 loop-holds : tie.Need-loop-holds Inv-loop μ-loop
 loop-holds c =
     let s = c .before .before .before .before .before in
@@ -79,14 +76,4 @@ returns c =
 pub all-into-spec : {M : Type 1} → statement M
 all-into-spec =
     tie.close
-    (tie.spec
-    Inv-loop
-    μ-loop
-    counts-requires
-    loop-holds
-    one-requires
-    add-g
-    loop-less
-    loop-again
-    same-length
-    returns)
+    (tie.spec Inv-loop μ-loop (λ c κs. search needs) loop-holds one-requires add-g loop-less loop-again same-length returns)

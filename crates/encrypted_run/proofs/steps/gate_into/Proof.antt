@@ -54,9 +54,6 @@ lent c =
     let f = own-fits c in
     length-take-le ((c .before .counts .result .inputs + s .args .g) * length (s .args .out .now)) (s .args .wires .now) (omega (arith, e, f))
 
-counts-requires : tie.Need-counts-requires
-counts-requires c κs = search needs
-
 add-end : tie.Need-add-end
 add-end c =
     let s = c .before .before .before .before .before .before .before in
@@ -78,21 +75,6 @@ mul-end c =
     let e = before-own c in
     omega (arith, e, w)
 
-kind-at-requires : tie.Need-kind-at-requires
-kind-at-requires c κs = search needs
-
-way-of-requires : tie.Need-way-of-requires
-way-of-requires c κs = search needs
-
-operand-at-requires : tie.Need-operand-at-requires
-operand-at-requires c κs = search needs
-
-operand-at-requires-2 : tie.Need-operand-at-requires-2
-operand-at-requires-2 c κs = search needs
-
-operand-at-requires-3 : tie.Need-operand-at-requires-3
-operand-at-requires-3 c κs = search needs
-
 slice-aggregate-way-into : tie.Need-slice-aggregate-way-into
 slice-aggregate-way-into c = sym (lent (c .before .before .before .before .before .before))
 
@@ -106,9 +88,6 @@ way-into-requires c κs =
       h .2,
     )
 
-same-length : tie.Need-same-length
-same-length c = search needs
-
 returns : tie.Need-returns
 returns c =
     let s = c .before .before .before .before .before .before .before .before .before .before .before .before .before .before .before .before .before in
@@ -118,16 +97,5 @@ returns c =
 pub gate-into-spec : {M : Type 1} → statement M
 gate-into-spec =
     tie.close
-    (tie.spec
-    counts-requires
-    add-end
-    mul-end
-    kind-at-requires
-    way-of-requires
-    operand-at-requires
-    operand-at-requires-2
-    operand-at-requires-3
-    slice-aggregate-way-into
-    way-into-requires
-    same-length
-    returns)
+    (tie.spec (λ c κs. search needs) add-end mul-end (λ c κs. search needs) (λ c κs. search needs) (λ c κs. search needs) (λ c κs. search needs)
+    (λ c κs. search needs) slice-aggregate-way-into way-into-requires (λ c. search needs) returns)

@@ -7,12 +7,6 @@ use borrow.Author.Needs.{needs}
 use Rattle.encrypted_run.proofs.steps.one.Statement.{statement}
 use Rattle.encrypted_run.proofs.steps.one.Tie as tie
 
-cast-words : tie.Need-cast-words
-cast-words c = search needs
-
-add-words : tie.Need-add-words
-add-words c = search needs
-
 array-borrow-prefix-c : tie.Need-array-borrow-prefix-c
 array-borrow-prefix-c c = let s = c .before .before .before .before .before in level0-to (s .args .p) _ (s .pre .0 .keys .good) refl
 
@@ -22,20 +16,7 @@ slice-aggregate-one-on c = let s = c .before .before .before .before .before .be
 one-on-requires : tie.Need-one-on-requires
 one-on-requires c κs = let s = c .before .before .before .before .before .before .before in (s .pre .0, s .pre .1, scratch 1101 _ (level0-to (s .args .p) _ (s .pre .0 .keys .good) refl))
 
-same-length : tie.Need-same-length
-same-length c = search needs
-
-returns : tie.Need-returns
-returns c = search needs
-
 pub one-spec : {M : Type 1} → statement M
 one-spec =
     tie.close
-    (tie.spec
-    cast-words
-    add-words
-    array-borrow-prefix-c
-    slice-aggregate-one-on
-    one-on-requires
-    same-length
-    returns)
+    (tie.spec (λ c. search needs) (λ c. search needs) array-borrow-prefix-c slice-aggregate-one-on one-on-requires (λ c. search needs) (λ c. search needs))

@@ -12,9 +12,6 @@ use borrow.Author.Needs.{needs}
 use Rattle.encrypted_run.proofs.steps.one_on.Statement.{statement}
 use Rattle.encrypted_run.proofs.steps.one_on.Tie as tie
 
-counts-requires : tie.Need-counts-requires
-counts-requires c κs = search needs
-
 add-own : tie.Need-add-own
 add-own c =
     let s = c .before .before .before .before .before .before .before in
@@ -24,9 +21,6 @@ add-own c =
     let g = h .gates-to in
     let l = s .pre .1 in
     omega (arith, i, a, g, l)
-
-gate-into-requires : tie.Need-gate-into-requires
-gate-into-requires c κs = search needs
 
 put-at-requires : tie.Need-put-at-requires
 put-at-requires c κs =
@@ -40,12 +34,6 @@ put-at-requires c κs =
       rw (s .pre .0 .wires-length) (wire-within (g .p) (c .before .before .before .before .before .before .before .before .counts .result .inputs + g .g) (wires b) (omega (arith, i, l))),
     )
 
-same-length : tie.Need-same-length
-same-length c = search needs
-
-same-length-2 : tie.Need-same-length-2
-same-length-2 c = search needs
-
 returns : tie.Need-returns
 returns c =
     let s = c .before .before .before .before .before .before .before .before .before .before .before .before .before .before .before .before .before in
@@ -55,11 +43,4 @@ returns c =
 pub one-on-spec : {M : Type 1} → statement M
 one-on-spec =
     tie.close
-    (tie.spec
-    counts-requires
-    add-own
-    gate-into-requires
-    put-at-requires
-    same-length
-    same-length-2
-    returns)
+    (tie.spec (λ c κs. search needs) add-own (λ c κs. search needs) put-at-requires (λ c. search needs) (λ c. search needs) returns)

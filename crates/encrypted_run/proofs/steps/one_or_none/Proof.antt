@@ -8,14 +8,8 @@ use borrow.Author.Needs.{needs}
 use Rattle.encrypted_run.proofs.steps.one_or_none.Statement.{statement}
 use Rattle.encrypted_run.proofs.steps.one_or_none.Tie as tie
 
-counts-requires : tie.Need-counts-requires
-counts-requires c κs = search needs
-
 one-requires : tie.Need-one-requires
 one-requires c κs = let s = c .before .before .before .before .before .before .before .before in let e = gates-are (s .args .bytes .now) (c .before .before .before .counts .ensures) in let t = c .before .if1 .taken in (s .pre, omega (arith, e, t))
-
-same-length : tie.Need-same-length
-same-length c = search needs
 
 returns : tie.Need-returns
 returns c =
@@ -32,4 +26,5 @@ returns-2 c =
     rw (le-ltb (s .args .g) (gates (s .args .bytes .now)) (omega (arith, e, t)))
 
 pub one-or-none-spec : {M : Type 1} → statement M
-one-or-none-spec = tie.close (tie.spec counts-requires one-requires same-length returns returns-2)
+one-or-none-spec = tie.close
+    (tie.spec (λ c κs. search needs) one-requires (λ c. search needs) returns returns-2)

@@ -55,17 +55,11 @@ row c =
     let s = c .before .before .before .before .before .before .before .before in
     c .ciphertext .ensures ∙ ap (cipherAt (s .args .p) (s .args .wires .now)) (wire (c .before))
 
-counts-requires : tie.Need-counts-requires Inv-loop μ-loop
-counts-requires c κs = search needs
-
 loop-holds : tie.Need-loop-holds Inv-loop μ-loop
 loop-holds c =
     let g = c .before .before .before .before .args in
     let e = joined-none (g .p .n + 1) (outputCipher (g .p) (g .bytes .now) (g .wires .now)) (g .out .now) in
     (omega arith, refl, e .0, e .1)
-
-output-at-requires : tie.Need-output-at-requires Inv-loop μ-loop
-output-at-requires c κs = search needs
 
 ciphertext-requires : tie.Need-ciphertext-requires Inv-loop μ-loop
 ciphertext-requires c κs = lies c
@@ -124,16 +118,5 @@ returns c =
 pub outputs-into-spec : {M : Type 1} → statement M
 outputs-into-spec =
     tie.close
-    (tie.spec
-    Inv-loop
-    μ-loop
-    counts-requires
-    loop-holds
-    output-at-requires
-    ciphertext-requires
-    put-at-requires
-    add-o
-    loop-less
-    loop-again
-    same-length
-    returns)
+    (tie.spec Inv-loop μ-loop (λ c κs. search needs) loop-holds (λ c κs. search needs) ciphertext-requires put-at-requires add-o loop-less loop-again
+    same-length returns)

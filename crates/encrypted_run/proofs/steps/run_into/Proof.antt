@@ -7,21 +7,6 @@ use borrow.Author.Needs.{needs}
 use Rattle.encrypted_run.proofs.steps.run_into.Statement.{statement}
 use Rattle.encrypted_run.proofs.steps.run_into.Tie as tie
 
-put-front-requires : tie.Need-put-front-requires
-put-front-requires c κs = search needs
-
-all-into-requires : tie.Need-all-into-requires
-all-into-requires c κs = search needs
-
-outputs-into-requires : tie.Need-outputs-into-requires
-outputs-into-requires c κs = search needs
-
-same-length : tie.Need-same-length
-same-length c = search needs
-
-same-length-2 : tie.Need-same-length-2
-same-length-2 c = search needs
-
 returns : tie.Need-returns
 returns c =
     let s = c .before .before .before .before .before .before .before .before .before .before .before .before .before .before .before .before .before .before .before in
@@ -32,10 +17,4 @@ returns c =
 pub run-into-spec : {M : Type 1} → statement M
 run-into-spec =
     tie.close
-    (tie.spec
-    put-front-requires
-    all-into-requires
-    outputs-into-requires
-    same-length
-    same-length-2
-    returns)
+    (tie.spec (λ c κs. search needs) (λ c κs. search needs) (λ c κs. search needs) (λ c. search needs) (λ c. search needs) returns)

@@ -6,16 +6,11 @@ use borrow.Author.Needs.{needs}
 use Rattle.encrypted_run.proofs.ways.known_into.Statement.{statement}
 use Rattle.encrypted_run.proofs.ways.known_into.Tie as tie
 
-constant-requires : tie.Need-constant-requires
-constant-requires c κs = search needs
-
-same-length : tie.Need-same-length
-same-length c = search needs
-
 returns : tie.Need-returns
 returns c =
     let s = c .before .before .before .before .before in
     c .before .before .constant .ensures .1 ∙ constant-written (s .args .p) (s .pre .0) (s .args .out .now) (s .args .out .now) (s .pre .1) (s .args .bit)
 
 pub known-into-spec : {M : Type 1} → statement M
-known-into-spec = tie.close (tie.spec constant-requires same-length returns)
+known-into-spec = tie.close
+    (tie.spec (λ c κs. search needs) (λ c. search needs) returns)

@@ -5,21 +5,6 @@ use borrow.Author.Needs.{needs}
 use Rattle.encrypted_run.proofs.ways.mux_into.Statement.{statement}
 use Rattle.encrypted_run.proofs.ways.mux_into.Tie as tie
 
-ciphertext-requires : tie.Need-ciphertext-requires
-ciphertext-requires c κs = search needs
-
-ciphertext-requires-2 : tie.Need-ciphertext-requires-2
-ciphertext-requires-2 c κs = search needs
-
-ciphertext-requires-3 : tie.Need-ciphertext-requires-3
-ciphertext-requires-3 c κs = search needs
-
-mux-requires : tie.Need-mux-requires
-mux-requires c κs = search needs
-
-same-length : tie.Need-same-length
-same-length c = search needs
-
 returns : tie.Need-returns
 returns c =
     let d = c .before .before .before .before .before .before .before .before .before .before .before in
@@ -29,10 +14,4 @@ returns c =
 pub mux-into-spec : {M : Type 1} → statement M
 mux-into-spec =
     tie.close
-    (tie.spec
-    ciphertext-requires
-    ciphertext-requires-2
-    ciphertext-requires-3
-    mux-requires
-    same-length
-    returns)
+    (tie.spec (λ c κs. search needs) (λ c κs. search needs) (λ c κs. search needs) (λ c κs. search needs) (λ c. search needs) returns)

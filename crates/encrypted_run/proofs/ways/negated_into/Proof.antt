@@ -16,18 +16,7 @@ slice-aggregate-negated-on c = let d = c .before .before .before .before .before
 negated-on-requires : tie.Need-negated-on-requires
 negated-on-requires c κs = let d = c .before .before .before .before .before .before in let h = d .pre in (h .0, h .1, h .2, scratch 1101 _ (level0-to (d .args .p) _ (h .0 .good) (h .3)) ∙ h .3, h .3)
 
-same-length : tie.Need-same-length
-same-length c = search needs
-
-returns : tie.Need-returns
-returns c = search needs
-
 pub negated-into-spec : {M : Type 1} → statement M
 negated-into-spec =
     tie.close
-    (tie.spec
-    array-borrow-prefix-scratch
-    slice-aggregate-negated-on
-    negated-on-requires
-    same-length
-    returns)
+    (tie.spec array-borrow-prefix-scratch slice-aggregate-negated-on negated-on-requires (λ c. search needs) (λ c. search needs))

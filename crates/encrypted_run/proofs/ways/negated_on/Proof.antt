@@ -8,18 +8,6 @@ use borrow.Author.Needs.{needs}
 use Rattle.encrypted_run.proofs.ways.negated_on.Statement.{statement}
 use Rattle.encrypted_run.proofs.ways.negated_on.Tie as tie
 
-two-into-requires : tie.Need-two-into-requires
-two-into-requires c κs = search needs
-
-not-requires : tie.Need-not-requires
-not-requires c κs = search needs
-
-same-length : tie.Need-same-length
-same-length c = search needs
-
-same-length-2 : tie.Need-same-length-2
-same-length-2 c = search needs
-
 returns : tie.Need-returns
 returns c =
     let d = c .before .before .before .before .before .before .before .before .before .before .before .before .before .before in
@@ -28,4 +16,5 @@ returns c =
 
 pub negated-on-spec : {M : Type 1} → statement M
 negated-on-spec =
-    tie.close (tie.spec two-into-requires not-requires same-length same-length-2 returns)
+    tie.close
+    (tie.spec (λ c κs. search needs) (λ c κs. search needs) (λ c. search needs) (λ c. search needs) returns)

@@ -7,15 +7,6 @@ use borrow.Author.Needs.{needs}
 use Rattle.encrypted_run.proofs.ways.not_into.Statement.{statement}
 use Rattle.encrypted_run.proofs.ways.not_into.Tie as tie
 
-ciphertext-requires : tie.Need-ciphertext-requires
-ciphertext-requires c κs = search needs
-
-not-requires : tie.Need-not-requires
-not-requires c κs = search needs
-
-same-length : tie.Need-same-length
-same-length c = search needs
-
 returns : tie.Need-returns
 returns c =
     let d = c .before .before .before .before .before .before .before in
@@ -23,4 +14,5 @@ returns c =
     not-made (g .p) (cipherAt (g .p) (g .wires .now) (g .x)) (g .out .now) (d .pre .0) (cipher-length (g .p) (g .wires .now) (g .x) (d .pre .1)) (d .pre .2) (c .before .before .before .before .ciphertext .ensures) (c .before .before .not .ensures .1)
 
 pub not-into-spec : {M : Type 1} → statement M
-not-into-spec = tie.close (tie.spec ciphertext-requires not-requires same-length returns)
+not-into-spec = tie.close
+    (tie.spec (λ c κs. search needs) (λ c κs. search needs) (λ c. search needs) returns)

@@ -5,18 +5,6 @@ use borrow.Author.Needs.{needs}
 use Rattle.encrypted_run.proofs.ways.two_into.Statement.{statement}
 use Rattle.encrypted_run.proofs.ways.two_into.Tie as tie
 
-ciphertext-requires : tie.Need-ciphertext-requires
-ciphertext-requires c κs = search needs
-
-ciphertext-requires-2 : tie.Need-ciphertext-requires-2
-ciphertext-requires-2 c κs = search needs
-
-gate-requires : tie.Need-gate-requires
-gate-requires c κs = search needs
-
-same-length : tie.Need-same-length
-same-length c = search needs
-
 returns : tie.Need-returns
 returns c =
     let d = c .before .before .before .before .before .before .before .before .before .before in
@@ -26,4 +14,4 @@ returns c =
 pub two-into-spec : {M : Type 1} → statement M
 two-into-spec =
     tie.close
-    (tie.spec ciphertext-requires ciphertext-requires-2 gate-requires same-length returns)
+    (tie.spec (λ c κs. search needs) (λ c κs. search needs) (λ c κs. search needs) (λ c. search needs) returns)

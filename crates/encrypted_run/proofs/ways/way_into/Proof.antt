@@ -21,9 +21,6 @@ as-many n e h = rw e h
 as-way : (p : Params) (ksk bsk a b c : List ℕ) {way is : Way} {out : List ℕ} → way ≡ is → out ≡ ran p ksk bsk is a b c → out ≡ ran p ksk bsk way a b c
 as-way p ksk bsk a b c e h = h ∙ ap (λ (w : Way). ran p ksk bsk w a b c) (sym e)
 
-enum-known-way : tie.Need-enum-known-way
-enum-known-way c = search needs
-
 known-into-requires : tie.Need-known-into-requires
 known-into-requires c κs = let h = c .before .before .before .before .before .before .before .before .pre in (h .0 .good, h .2)
 
@@ -34,18 +31,12 @@ not-into-requires : tie.Need-not-into-requires
 unfolding operandsOf
 not-into-requires c κs = let h = c .before .before .before .before .before .before .before .pre in (h .0 .good, h .1 .first (as-many 0 (c .before .enum-told .given .1) (lit< tt)), h .2)
 
-enum-known-way-2 : tie.Need-enum-known-way-2
-enum-known-way-2 c = search needs
-
 two-into-requires : tie.Need-two-into-requires
 unfolding operandsOf
 two-into-requires c κs =
     let h = c .before .before .before .before .before .before .before .before .pre in
     let e = c .before .before .way2 .given .1 in
     (h .0, h .1 .first (as-many 0 e (lit< tt)), h .1 .second (as-many 1 e (lit< tt)), h .2)
-
-enum-known-way-3 : tie.Need-enum-known-way-3
-enum-known-way-3 c = search needs
 
 negated-into-requires : tie.Need-negated-into-requires
 unfolding operandsOf
@@ -54,9 +45,6 @@ negated-into-requires c κs =
     let e = c .before .before .way3 .given .1 in
     (h .0, h .1 .first (as-many 0 e (lit< tt)), h .1 .second (as-many 1 e (lit< tt)), h .2)
 
-enum-told-2 : tie.Need-enum-told-2
-enum-told-2 c = search needs
-
 mux-into-requires : tie.Need-mux-into-requires
 unfolding operandsOf
 mux-into-requires c κs =
@@ -64,17 +52,11 @@ mux-into-requires c κs =
     let e = c .before .enum-told2 .given .1 in
     (h .0, h .1 .first (as-many 0 e (lit< tt)), h .1 .second (as-many 1 e (lit< tt)), h .1 .third (as-many 2 e (lit< tt)), h .2)
 
-same-length : tie.Need-same-length
-same-length c = search needs
-
 returns : tie.Need-returns
 returns c =
     let s = c .before .before .before .before .before .before .before .before .before .before .before in
     let g = s .args in
     as-way (g .p) (g .ksk .now) (g .bsk .now) (cipherAt (g .p) (g .wires .now) (g .x)) (cipherAt (g .p) (g .wires .now) (g .y)) (cipherAt (g .p) (g .wires .now) (g .z)) (c .before .before .before .before .before .way .given .1) (c .before .before .known-into .ensures ∙ sym (ran-known (g .p) (g .ksk .now) (g .bsk .now) (cipherAt (g .p) (g .wires .now) (g .x)) (cipherAt (g .p) (g .wires .now) (g .y)) (cipherAt (g .p) (g .wires .now) (g .z)) _))
-
-same-length-2 : tie.Need-same-length-2
-same-length-2 c = search needs
 
 returns-2 : tie.Need-returns-2
 returns-2 c =
@@ -82,26 +64,17 @@ returns-2 c =
     let g = s .args in
     as-way (g .p) (g .ksk .now) (g .bsk .now) (cipherAt (g .p) (g .wires .now) (g .x)) (cipherAt (g .p) (g .wires .now) (g .y)) (cipherAt (g .p) (g .wires .now) (g .z)) (c .before .before .before .before .enum-told .given .1) (c .before .before .not-into .ensures ∙ sym (ran-negated (g .p) (g .ksk .now) (g .bsk .now) (cipherAt (g .p) (g .wires .now) (g .x)) (cipherAt (g .p) (g .wires .now) (g .y)) (cipherAt (g .p) (g .wires .now) (g .z))))
 
-same-length-3 : tie.Need-same-length-3
-same-length-3 c = search needs
-
 returns-3 : tie.Need-returns-3
 returns-3 c =
     let s = c .before .before .before .before .before .before .before .before .before .before .before in
     let g = s .args in
     as-way (g .p) (g .ksk .now) (g .bsk .now) (cipherAt (g .p) (g .wires .now) (g .x)) (cipherAt (g .p) (g .wires .now) (g .y)) (cipherAt (g .p) (g .wires .now) (g .z)) (c .before .before .before .before .before .way2 .given .1) (c .before .before .two-into .ensures ∙ sym (ran-gate (g .p) (g .ksk .now) (g .bsk .now) (cipherAt (g .p) (g .wires .now) (g .x)) (cipherAt (g .p) (g .wires .now) (g .y)) (cipherAt (g .p) (g .wires .now) (g .z)) _))
 
-same-length-4 : tie.Need-same-length-4
-same-length-4 c = search needs
-
 returns-4 : tie.Need-returns-4
 returns-4 c =
     let s = c .before .before .before .before .before .before .before .before .before .before .before in
     let g = s .args in
     as-way (g .p) (g .ksk .now) (g .bsk .now) (cipherAt (g .p) (g .wires .now) (g .x)) (cipherAt (g .p) (g .wires .now) (g .y)) (cipherAt (g .p) (g .wires .now) (g .z)) (c .before .before .before .before .before .way3 .given .1) (c .before .before .negated-into .ensures ∙ sym (ran-negated-gate (g .p) (g .ksk .now) (g .bsk .now) (cipherAt (g .p) (g .wires .now) (g .x)) (cipherAt (g .p) (g .wires .now) (g .y)) (cipherAt (g .p) (g .wires .now) (g .z)) _))
-
-same-length-5 : tie.Need-same-length-5
-same-length-5 c = search needs
 
 returns-5 : tie.Need-returns-5
 returns-5 c =
@@ -112,24 +85,6 @@ returns-5 c =
 pub way-into-spec : {M : Type 1} → statement M
 way-into-spec =
     tie.close
-    (tie.spec
-    enum-known-way
-    known-into-requires
-    enum-told
-    not-into-requires
-    enum-known-way-2
-    two-into-requires
-    enum-known-way-3
-    negated-into-requires
-    enum-told-2
-    mux-into-requires
-    same-length
-    returns
-    same-length-2
-    returns-2
-    same-length-3
-    returns-3
-    same-length-4
-    returns-4
-    same-length-5
-    returns-5)
+    (tie.spec (λ c. search needs) known-into-requires enum-told not-into-requires (λ c. search needs) two-into-requires (λ c. search needs)
+    negated-into-requires (λ c. search needs) mux-into-requires (λ c. search needs) returns (λ c. search needs) returns-2 (λ c. search needs) returns-3
+    (λ c. search needs) returns-4 (λ c. search needs) returns-5)

@@ -5,18 +5,6 @@ use borrow.Author.Needs.{needs}
 use Rattle.gates.proofs.boot.gate_on.Statement.{statement}
 use Rattle.gates.proofs.boot.gate_on.Tie as tie
 
-put-sample-requires : tie.Need-put-sample-requires
-put-sample-requires c κs = search needs
-
-identity-key-switching-requires : tie.Need-identity-key-switching-requires
-identity-key-switching-requires c κs = search needs
-
-same-length : tie.Need-same-length
-same-length c = search needs
-
-same-length-2 : tie.Need-same-length-2
-same-length-2 c = search needs
-
 returns : tie.Need-returns
 returns c =
     let d = c .before .before .before .before .before .before .before .before .before .before .before .before .before .before .before in
@@ -27,9 +15,4 @@ returns c =
 pub gate-on-spec : {M : Type 1} → statement M
 gate-on-spec =
     tie.close
-    (tie.spec
-    put-sample-requires
-    identity-key-switching-requires
-    same-length
-    same-length-2
-    returns)
+    (tie.spec (λ c κs. search needs) (λ c κs. search needs) (λ c. search needs) (λ c. search needs) returns)

@@ -10,15 +10,6 @@ use borrow.Author.Needs.{needs}
 use Rattle.gates.proofs.boot.mux_naive_on.Statement.{statement}
 use Rattle.gates.proofs.boot.mux_naive_on.Tie as tie
 
-put-gate-requires : tie.Need-put-gate-requires
-put-gate-requires c κs = search needs
-
-not-requires : tie.Need-not-requires
-not-requires c κs = search needs
-
-put-gate-requires-2 : tie.Need-put-gate-requires-2
-put-gate-requires-2 c κs = search needs
-
 put-gate-requires-3 : tie.Need-put-gate-requires-3
 put-gate-requires-3 c κs =
     let d = c .before .before .before .before .before .before .before .before .before .before .before .before .before .before .before .before .before .before .before .before .before .before .before .before .before in
@@ -32,18 +23,6 @@ put-gate-requires-3 c κs =
       result = k .result;
     }
 
-same-length : tie.Need-same-length
-same-length c = search needs
-
-same-length-2 : tie.Need-same-length-2
-same-length-2 c = search needs
-
-same-length-3 : tie.Need-same-length-3
-same-length-3 c = search needs
-
-same-length-4 : tie.Need-same-length-4
-same-length-4 c = search needs
-
 returns : tie.Need-returns
 returns c =
     let d = c .before .before .before .before .before .before .before .before .before .before .before .before .before .before .before .before .before .before .before .before .before .before .before .before .before .before .before .before in
@@ -56,13 +35,5 @@ returns c =
 pub mux-naive-on-spec : {M : Type 1} → statement M
 mux-naive-on-spec =
     tie.close
-    (tie.spec
-    put-gate-requires
-    not-requires
-    put-gate-requires-2
-    put-gate-requires-3
-    same-length
-    same-length-2
-    same-length-3
-    same-length-4
-    returns)
+    (tie.spec (λ c κs. search needs) (λ c κs. search needs) (λ c κs. search needs) put-gate-requires-3 (λ c. search needs) (λ c. search needs)
+    (λ c. search needs) (λ c. search needs) returns)

@@ -5,30 +5,6 @@ use borrow.Author.Needs.{needs}
 use Rattle.gates.proofs.boot.mux_on.Statement.{statement}
 use Rattle.gates.proofs.boot.mux_on.Tie as tie
 
-put-sample-requires : tie.Need-put-sample-requires
-put-sample-requires c κs = search needs
-
-put-sample-requires-2 : tie.Need-put-sample-requires-2
-put-sample-requires-2 c κs = search needs
-
-mux-sum-into-requires : tie.Need-mux-sum-into-requires
-mux-sum-into-requires c κs = search needs
-
-identity-key-switching-requires : tie.Need-identity-key-switching-requires
-identity-key-switching-requires c κs = search needs
-
-same-length : tie.Need-same-length
-same-length c = search needs
-
-same-length-2 : tie.Need-same-length-2
-same-length-2 c = search needs
-
-same-length-3 : tie.Need-same-length-3
-same-length-3 c = search needs
-
-same-length-4 : tie.Need-same-length-4
-same-length-4 c = search needs
-
 returns : tie.Need-returns
 returns c =
     let d = c .before .before .before .before .before .before .before .before .before .before .before .before .before .before .before .before .before .before .before .before .before .before .before .before .before .before .before .before in
@@ -40,13 +16,5 @@ returns c =
 pub mux-on-spec : {M : Type 1} → statement M
 mux-on-spec =
     tie.close
-    (tie.spec
-    put-sample-requires
-    put-sample-requires-2
-    mux-sum-into-requires
-    identity-key-switching-requires
-    same-length
-    same-length-2
-    same-length-3
-    same-length-4
-    returns)
+    (tie.spec (λ c κs. search needs) (λ c κs. search needs) (λ c κs. search needs) (λ c κs. search needs) (λ c. search needs) (λ c. search needs)
+    (λ c. search needs) (λ c. search needs) returns)

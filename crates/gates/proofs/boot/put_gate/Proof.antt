@@ -7,9 +7,6 @@ use borrow.Author.Needs.{needs}
 use Rattle.gates.proofs.boot.put_gate.Statement.{statement}
 use Rattle.gates.proofs.boot.put_gate.Tie as tie
 
-sizes-of-requires : tie.Need-sizes-of-requires
-sizes-of-requires c κs = search needs
-
 array-borrow-prefix-sample : tie.Need-array-borrow-prefix-sample
 array-borrow-prefix-sample c = level1-to _ (c .before .before .before .before .before .before .pre .good) (c .sizes-of .ensures)
 
@@ -22,19 +19,10 @@ gate-on-requires c κs =
     let e = c .before .before .sizes-of .ensures in
     (g, scratch 1025 _ (level1-to _ (g .good) e) ∙ level1-is _ (g .good) e)
 
-same-length : tie.Need-same-length
-same-length c = search needs
-
 returns : tie.Need-returns
 returns c = c .before .before .before .gate-on .ensures
 
 pub put-gate-spec : {M : Type 1} → statement M
 put-gate-spec =
     tie.close
-    (tie.spec
-    sizes-of-requires
-    array-borrow-prefix-sample
-    slice-aggregate-gate-on
-    gate-on-requires
-    same-length
-    returns)
+    (tie.spec (λ c κs. search needs) array-borrow-prefix-sample slice-aggregate-gate-on gate-on-requires (λ c. search needs) returns)

@@ -7,9 +7,6 @@ use borrow.Author.Needs.{needs}
 use Rattle.gates.proofs.boot.put_mux.Statement.{statement}
 use Rattle.gates.proofs.boot.put_mux.Tie as tie
 
-sizes-of-requires : tie.Need-sizes-of-requires
-sizes-of-requires c κs = search needs
-
 array-borrow-prefix-u : tie.Need-array-borrow-prefix-u
 array-borrow-prefix-u c = level1-to _ (c .before .before .before .before .before .before .before .pre .good) (c .sizes-of .ensures)
 
@@ -35,23 +32,11 @@ mux-on-requires c κs =
     let w = scratch 1025 _ (level1-to _ (g .good) e) ∙ level1-is _ (g .good) e in
     (g, (w, w, w))
 
-same-length : tie.Need-same-length
-same-length c = search needs
-
 returns : tie.Need-returns
 returns c = c .before .before .before .before .before .mux-on .ensures
 
 pub put-mux-spec : {M : Type 1} → statement M
 put-mux-spec =
     tie.close
-    (tie.spec
-    sizes-of-requires
-    array-borrow-prefix-u
-    slice-aggregate-mux-on
-    array-borrow-prefix-v
-    slice-aggregate-mux-on-2
-    array-borrow-prefix-sum
-    slice-aggregate-mux-on-3
-    mux-on-requires
-    same-length
-    returns)
+    (tie.spec (λ c κs. search needs) array-borrow-prefix-u slice-aggregate-mux-on array-borrow-prefix-v slice-aggregate-mux-on-2 array-borrow-prefix-sum
+    slice-aggregate-mux-on-3 mux-on-requires (λ c. search needs) returns)

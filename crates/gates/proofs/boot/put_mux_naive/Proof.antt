@@ -37,22 +37,11 @@ mux-naive-on-requires c κs =
     let w = scratch 1101 _ (room d) ∙ d .pre .first in
     (d .pre, (w, w, w))
 
-same-length : tie.Need-same-length
-same-length c = search needs
-
 returns : tie.Need-returns
 returns c = c .before .before .before .before .before .mux-naive-on .ensures
 
 pub put-mux-naive-spec : {M : Type 1} → statement M
 put-mux-naive-spec =
     tie.close
-    (tie.spec
-    array-borrow-prefix-u
-    slice-aggregate-mux-naive-on
-    array-borrow-prefix-v
-    slice-aggregate-mux-naive-on-2
-    array-borrow-prefix-w
-    slice-aggregate-mux-naive-on-3
-    mux-naive-on-requires
-    same-length
-    returns)
+    (tie.spec array-borrow-prefix-u slice-aggregate-mux-naive-on array-borrow-prefix-v slice-aggregate-mux-naive-on-2 array-borrow-prefix-w
+    slice-aggregate-mux-naive-on-3 mux-naive-on-requires (λ c. search needs) returns)

@@ -22,9 +22,6 @@ size-is s = omega (arith, s .pre .4)
 room1 : (s : tie.Start) → length (s .args .out .now) - 1 ≤ 1024
 room1 s = omega (arith, size-is s, size-to _ (in-range _ (s .pre .0)))
 
-sub-n : tie.Need-sub-n
-sub-n c = search needs
-
 array-borrow-prefix-sum : tie.Need-array-borrow-prefix-sum
 array-borrow-prefix-sum c = room0 (c .before .before .before .before)
 
@@ -50,23 +47,11 @@ sample-on-requires c κs =
     let x = scratch 1024 _ (room1 d) ∙ size-is d in
     ((r .0, r .1, r .2, r .3), (scratch 1101 _ (room0 d) ∙ r .1, x, x, r .4))
 
-same-length : tie.Need-same-length
-same-length c = search needs
-
 returns : tie.Need-returns
 returns c = c .before .before .before .before .before .sample-on .ensures
 
 pub put-sample-spec : {M : Type 1} → statement M
 put-sample-spec =
     tie.close
-    (tie.spec
-    sub-n
-    array-borrow-prefix-sum
-    slice-aggregate-sample-on
-    array-borrow-prefix-ra
-    slice-aggregate-sample-on-2
-    array-borrow-prefix-rb
-    slice-aggregate-sample-on-3
-    sample-on-requires
-    same-length
-    returns)
+    (tie.spec (λ c. search needs) array-borrow-prefix-sum slice-aggregate-sample-on array-borrow-prefix-ra slice-aggregate-sample-on-2 array-borrow-prefix-rb
+    slice-aggregate-sample-on-3 sample-on-requires (λ c. search needs) returns)

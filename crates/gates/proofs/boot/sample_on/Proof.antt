@@ -5,27 +5,6 @@ use borrow.Author.Needs.{needs}
 use Rattle.gates.proofs.boot.sample_on.Statement.{statement}
 use Rattle.gates.proofs.boot.sample_on.Tie as tie
 
-sum-into-requires : tie.Need-sum-into-requires
-sum-into-requires c κs = search needs
-
-blind-rotate-requires : tie.Need-blind-rotate-requires
-blind-rotate-requires c κs = search needs
-
-sample-extract-index-requires : tie.Need-sample-extract-index-requires
-sample-extract-index-requires c κs = search needs
-
-same-length : tie.Need-same-length
-same-length c = search needs
-
-same-length-2 : tie.Need-same-length-2
-same-length-2 c = search needs
-
-same-length-3 : tie.Need-same-length-3
-same-length-3 c = search needs
-
-same-length-4 : tie.Need-same-length-4
-same-length-4 c = search needs
-
 returns : tie.Need-returns
 returns c =
     let d = c .before .before .before .before .before .before .before .before .before .before .before .before .before .before .before .before .before .before .before .before .before .before .before .before .before in
@@ -36,12 +15,5 @@ returns c =
 pub sample-on-spec : {M : Type 1} → statement M
 sample-on-spec =
     tie.close
-    (tie.spec
-    sum-into-requires
-    blind-rotate-requires
-    sample-extract-index-requires
-    same-length
-    same-length-2
-    same-length-3
-    same-length-4
-    returns)
+    (tie.spec (λ c κs. search needs) (λ c κs. search needs) (λ c κs. search needs) (λ c. search needs) (λ c. search needs) (λ c. search needs)
+    (λ c. search needs) returns)

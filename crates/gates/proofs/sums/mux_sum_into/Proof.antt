@@ -14,30 +14,6 @@ use borrow.Author.Needs.{needs}
 use Rattle.gates.proofs.sums.mux_sum_into.Statement.{statement}
 use Rattle.gates.proofs.sums.mux_sum_into.Tie as tie
 
-add-requires : tie.Need-add-requires
-add-requires c κs = search needs
-
-sub-last : tie.Need-sub-last
-sub-last c = search needs
-
-mul-add : tie.Need-mul-add
-mul-add c = search needs
-
-slice-read-add : tie.Need-slice-read-add
-slice-read-add c = search needs
-
-add-requires-2 : tie.Need-add-requires-2
-add-requires-2 c κs = search needs
-
-mul-out : tie.Need-mul-out
-mul-out c = search needs
-
-slice-write-out : tie.Need-slice-write-out
-slice-write-out c = search needs
-
-same-length : tie.Need-same-length
-same-length c = search needs
-
 returns : tie.Need-returns
 returns c =
     let d = c .before .before .before .before .before .before .before .before .before in
@@ -51,13 +27,5 @@ returns c =
 pub mux-sum-into-spec : {M : Type 1} → statement M
 mux-sum-into-spec =
     tie.close
-    (tie.spec
-    add-requires
-    sub-last
-    mul-add
-    slice-read-add
-    add-requires-2
-    mul-out
-    slice-write-out
-    same-length
-    returns)
+    (tie.spec (λ c κs. search needs) (λ c. search needs) (λ c. search needs) (λ c. search needs) (λ c κs. search needs) (λ c. search needs) (λ c. search needs)
+    (λ c. search needs) returns)

@@ -9,33 +9,6 @@ use borrow.Author.Needs.{needs}
 use Rattle.gates.proofs.sums.sum_into.Statement.{statement}
 use Rattle.gates.proofs.sums.sum_into.Tie as tie
 
-weights-of-requires : tie.Need-weights-of-requires
-weights-of-requires c κs = search needs
-
-combine-requires : tie.Need-combine-requires
-combine-requires c κs = search needs
-
-cast-last : tie.Need-cast-last
-cast-last c = search needs
-
-mul-add : tie.Need-mul-add
-mul-add c = search needs
-
-slice-read-add : tie.Need-slice-read-add
-slice-read-add c = search needs
-
-add-requires : tie.Need-add-requires
-add-requires c κs = search needs
-
-mul-out : tie.Need-mul-out
-mul-out c = search needs
-
-slice-write-out : tie.Need-slice-write-out
-slice-write-out c = search needs
-
-same-length : tie.Need-same-length
-same-length c = search needs
-
 returns : tie.Need-returns
 returns c =
     let d = c .before .before .before .before .before .before .before .before .before .before .before in
@@ -48,14 +21,5 @@ returns c =
 pub sum-into-spec : {M : Type 1} → statement M
 sum-into-spec =
     tie.close
-    (tie.spec
-    weights-of-requires
-    combine-requires
-    cast-last
-    mul-add
-    slice-read-add
-    add-requires
-    mul-out
-    slice-write-out
-    same-length
-    returns)
+    (tie.spec (λ c κs. search needs) (λ c κs. search needs) (λ c. search needs) (λ c. search needs) (λ c. search needs) (λ c κs. search needs)
+    (λ c. search needs) (λ c. search needs) (λ c. search needs) returns)

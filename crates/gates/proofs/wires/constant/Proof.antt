@@ -9,18 +9,6 @@ use borrow.Author.Needs.{needs}
 use Rattle.gates.proofs.wires.constant.Statement.{statement}
 use Rattle.gates.proofs.wires.constant.Tie as tie
 
-constant-number-requires : tie.Need-constant-number-requires
-constant-number-requires c κs = search needs
-
-constant-word-requires : tie.Need-constant-word-requires
-constant-word-requires c κs = search needs
-
-constant-into-requires : tie.Need-constant-into-requires
-constant-into-requires c κs = search needs
-
-same-length : tie.Need-same-length
-same-length c = search needs
-
 returns : tie.Need-returns
 returns c =
     let t = c .before .before .before .before .before in
@@ -37,10 +25,4 @@ returns-2 c = let e = c .before .constant-number .ensures in (ap answer e, kept 
 pub constant-spec : {M : Type 1} → statement M
 constant-spec =
     tie.close
-    (tie.spec
-    constant-number-requires
-    constant-word-requires
-    constant-into-requires
-    same-length
-    returns
-    returns-2)
+    (tie.spec (λ c κs. search needs) (λ c κs. search needs) (λ c κs. search needs) (λ c. search needs) returns returns-2)

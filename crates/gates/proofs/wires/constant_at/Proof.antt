@@ -12,4 +12,5 @@ returns-2 : tie.Need-returns-2
 returns-2 c = rw (ne-eqb _ _ (c .if1 .left))
 
 pub constant-at-spec : {M : Type 1} → statement M
-constant-at-spec = tie.close (tie.spec returns returns-2)
+constant-at-spec = tie.close
+    (tie.spec returns returns-2)

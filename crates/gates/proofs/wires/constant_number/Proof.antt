@@ -8,9 +8,6 @@ use Rattle.gates.proofs.Checks.{lengths-in, on-params, out-params, fits
 use Rattle.gates.proofs.wires.constant_number.Statement.{statement}
 use Rattle.gates.proofs.wires.constant_number.Tie as tie
 
-sizes-of-requires : tie.Need-sizes-of-requires
-sizes-of-requires c κs = search needs
-
 returns : tie.Need-returns
 unfolding constantNumber
 returns c = simp (out-params _ (c .before .before .sizes-of .ensures) (c .if1 .taken))
@@ -30,4 +27,5 @@ returns-3 c =
     simp (on-params _ e (d .if1 .left), fits (c .if2 .left) (ap (λ (s : Sizes). s .level0) (lengths-in _ e (d .if1 .left))))
 
 pub constant-number-spec : {M : Type 1} → statement M
-constant-number-spec = tie.close (tie.spec sizes-of-requires returns returns-2 returns-3)
+constant-number-spec = tie.close
+    (tie.spec (λ c κs. search needs) returns returns-2 returns-3)

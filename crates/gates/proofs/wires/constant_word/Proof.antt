@@ -6,12 +6,10 @@ use Rattle.ring.specs.Word.{Q}
 use Rattle.gates.proofs.wires.constant_word.Statement.{statement}
 use Rattle.gates.proofs.wires.constant_word.Tie as tie
 
-returns : tie.Need-returns
-returns c = search needs
-
 returns-2 : tie.Need-returns-2
 unfolding Q
 returns-2 c = search needs
 
 pub constant-word-spec : {M : Type 1} → statement M
-constant-word-spec = tie.close (tie.spec returns returns-2)
+constant-word-spec = tie.close
+    (tie.spec (λ c. search needs) returns-2)

@@ -8,17 +8,11 @@ use borrow.Author.Needs.{needs}
 use Rattle.gates.proofs.wires.copy.Statement.{statement}
 use Rattle.gates.proofs.wires.copy.Tie as tie
 
-copy-number-requires : tie.Need-copy-number-requires
-copy-number-requires c κs = search needs
-
 copy-into-requires : tie.Need-copy-into-requires
 copy-into-requires c κs =
     let t = c .before in
     let g = linear-good _ _ _ _ _ (sym (t .before .copy-number .ensures) ∙ t .if1 .taken) in
     g .first ∙ sym (g .result)
-
-same-length : tie.Need-same-length
-same-length c = search needs
 
 returns : tie.Need-returns
 returns c =
@@ -31,4 +25,5 @@ returns-2 c = let e = c .before .copy-number .ensures in (ap answer e, kept _ _ 
 
 pub copy-spec : {M : Type 1} → statement M
 copy-spec =
-    tie.close (tie.spec copy-number-requires copy-into-requires same-length returns returns-2)
+    tie.close
+    (tie.spec (λ c κs. search needs) copy-into-requires (λ c. search needs) returns returns-2)

@@ -8,9 +8,6 @@ use Rattle.gates.proofs.Checks.{lengths-in, on-params, out-params, fits
 use Rattle.gates.proofs.wires.copy_number.Statement.{statement}
 use Rattle.gates.proofs.wires.copy_number.Tie as tie
 
-sizes-of-requires : tie.Need-sizes-of-requires
-sizes-of-requires c κs = search needs
-
 returns : tie.Need-returns
 unfolding linearNumber
 returns c = simp (out-params _ (c .before .before .sizes-of .ensures) (c .if1 .taken))
@@ -39,4 +36,5 @@ returns-4 c =
     simp (on-params _ e (d .if1 .left), fits (c .before .before .if2 .left) n, fits (c .if3 .left) n)
 
 pub copy-number-spec : {M : Type 1} → statement M
-copy-number-spec = tie.close (tie.spec sizes-of-requires returns returns-2 returns-3 returns-4)
+copy-number-spec = tie.close
+    (tie.spec (λ c κs. search needs) returns returns-2 returns-3 returns-4)

@@ -4,14 +4,6 @@ use borrow.Author.Needs.{needs}
 use Rattle.gates.proofs.wires.not.Statement.{statement}
 use Rattle.gates.proofs.wires.not.Tie as tie
 
-neg-requires : tie.Need-neg-requires
-neg-requires c κs = search needs
-
-same-length : tie.Need-same-length
-same-length c = search needs
-
-returns : tie.Need-returns
-returns c = search needs
-
 pub not-spec : {M : Type 1} → statement M
-not-spec = tie.close (tie.spec neg-requires same-length returns)
+not-spec = tie.close
+    (tie.spec (λ c κs. search needs) (λ c. search needs) (λ c. search needs))

@@ -10,9 +10,6 @@ use borrow.Author.Needs.{needs}
 use Rattle.key.proofs.bits.bit_number.Statement.{statement}
 use Rattle.key.proofs.bits.bit_number.Tie as tie
 
-sizes-of-requires : tie.Need-sizes-of-requires
-sizes-of-requires c κs = search needs
-
 returns : tie.Need-returns
 unfolding bitRowsNumber
 returns c =
@@ -45,4 +42,5 @@ returns-4 c =
 
 pub bit-number-spec : {M : Type 1} → statement M
 bit-number-spec =
-    tie.close (tie.spec sizes-of-requires returns returns-2 returns-3 returns-4)
+    tie.close
+    (tie.spec (λ c κs. search needs) returns returns-2 returns-3 returns-4)

@@ -28,17 +28,8 @@ ends c =
     let l = good (c .before) in
     rw (bit c, l .key) (row-ends (g .i) (g .p .n) (bitWords (g .p)) (l .index))
 
-bit-number-requires : tie.Need-bit-number-requires
-bit-number-requires c κs = search needs
-
-slice-aggregate-result : tie.Need-slice-aggregate-result
-slice-aggregate-result c = search needs
-
 returns : tie.Need-returns
 returns c = kept _ _ _ (λ e. c .before .if1 .taken (c .before .before .bit-number .ensures ∙ e))
-
-sizes-of-requires : tie.Need-sizes-of-requires
-sizes-of-requires c κs = search needs
 
 mul-from : tie.Need-mul-from
 mul-from c = omega (arith, ends c)
@@ -48,12 +39,6 @@ add-end c = omega (arith, ends c)
 
 mul-result : tie.Need-mul-result
 mul-result c = omega (arith, ends c)
-
-sub-result : tie.Need-sub-result
-sub-result c = search needs
-
-part-result-start : tie.Need-part-result-start
-part-result-start c = search needs
 
 part-result-end : tie.Need-part-result-end
 part-result-end c = omega (arith, ends c)
@@ -67,15 +52,5 @@ returns-2 c =
 pub bit-rows-spec : {M : Type 1} → statement M
 bit-rows-spec =
     tie.close
-    (tie.spec
-    bit-number-requires
-    slice-aggregate-result
-    returns
-    sizes-of-requires
-    mul-from
-    add-end
-    mul-result
-    sub-result
-    part-result-start
-    part-result-end
-    returns-2)
+    (tie.spec (λ c κs. search needs) (λ c. search needs) returns (λ c κs. search needs) mul-from add-end mul-result (λ c. search needs) (λ c. search needs)
+    part-result-end returns-2)

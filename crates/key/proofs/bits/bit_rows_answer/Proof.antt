@@ -6,11 +6,9 @@ use borrow.Author.Needs.{needs}
 use Rattle.key.proofs.bits.bit_rows_answer.Statement.{statement}
 use Rattle.key.proofs.bits.bit_rows_answer.Tie as tie
 
-bit-number-requires : tie.Need-bit-number-requires
-bit-number-requires c κs = search needs
-
 returns : tie.Need-returns
 returns c = ap answer (c .bit-number .ensures)
 
 pub bit-rows-answer-spec : {M : Type 1} → statement M
-bit-rows-answer-spec = tie.close (tie.spec bit-number-requires returns)
+bit-rows-answer-spec = tie.close
+    (tie.spec (λ c κs. search needs) returns)

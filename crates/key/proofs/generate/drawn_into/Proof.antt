@@ -29,15 +29,6 @@ part : (c : tie.After-carried-word) → let g = c .before .before .before .befor
     ((g .i * g .p .t + g .j) * (c .before .before .before .before .power .result - 1) + (g .k - 1)) * g .p .n + g .p .n ≤ length (g .masks .now)
 part c = omega (arith, way (c .before .before .before .before), c .before .before .before .before .before .before .before .before .before .before .pre .0)
 
-power-requires : tie.Need-power-requires
-power-requires c κs = search needs
-
-cast-base : tie.Need-cast-base
-cast-base c = search needs
-
-cast-d : tie.Need-cast-d
-cast-d c = search needs
-
 mul-d : tie.Need-mul-d
 mul-d c = omega (arith, way (c .before))
 
@@ -50,29 +41,14 @@ sub-d c = omega (arith, base-is (c .before))
 mul-d-2 : tie.Need-mul-d-2
 mul-d-2 c = omega (arith, way (c .before))
 
-sub-d-2 : tie.Need-sub-d-2
-sub-d-2 c = omega arith
-
 add-d-2 : tie.Need-add-d-2
 add-d-2 c = omega (arith, way (c .before))
-
-cast-n : tie.Need-cast-n
-cast-n c = search needs
 
 mul-from : tie.Need-mul-from
 mul-from c = omega (arith, way (c .before .before))
 
 add-to : tie.Need-add-to
 add-to c = omega (arith, way (c .before .before))
-
-mul-carried-word : tie.Need-mul-carried-word
-mul-carried-word c = search needs
-
-shared-slice-read-carried-word : tie.Need-shared-slice-read-carried-word
-shared-slice-read-carried-word c = search needs
-
-cast-carried-word : tie.Need-cast-carried-word
-cast-carried-word c = search needs
 
 cast-carried-word-2 : tie.Need-cast-carried-word-2
 cast-carried-word-2 c = omega (arith, base-to (c .before .before .before .before .before .before .before .before .before .args .p) (c .before .before .before .before .before .before .before .before .before .pre .0 .range))
@@ -85,12 +61,6 @@ carried-word-requires c κs =
 
 mul-encrypted : tie.Need-mul-encrypted
 mul-encrypted c = omega (arith, part c)
-
-sub-encrypted : tie.Need-sub-encrypted
-sub-encrypted c = search needs
-
-part-encrypted-start : tie.Need-part-encrypted-start
-part-encrypted-start c = search needs
 
 part-encrypted-end : tie.Need-part-encrypted-end
 part-encrypted-end c = omega (arith, part c)
@@ -108,9 +78,6 @@ encrypted-requires c κs =
     let l = part-length (g .masks .now) _ _ (part (c .before .before .before)) in
     (l ∙ sym (h .0 .key-length), h .5 ∙ ap (λ (x : ℕ). x + 1) (sym l))
 
-same-length : tie.Need-same-length
-same-length c = search needs
-
 returns : tie.Need-returns
 unfolding carried
 returns c =
@@ -122,30 +89,6 @@ returns c =
 pub drawn-into-spec : {M : Type 1} → statement M
 drawn-into-spec =
     tie.close
-    (tie.spec
-    power-requires
-    cast-base
-    cast-d
-    mul-d
-    add-d
-    sub-d
-    mul-d-2
-    sub-d-2
-    add-d-2
-    cast-n
-    mul-from
-    add-to
-    mul-carried-word
-    shared-slice-read-carried-word
-    cast-carried-word
-    cast-carried-word-2
-    carried-word-requires
-    mul-encrypted
-    sub-encrypted
-    part-encrypted-start
-    part-encrypted-end
-    mul-encrypted-2
-    shared-slice-read-encrypted
-    encrypted-requires
-    same-length
-    returns)
+    (tie.spec (λ c κs. search needs) (λ c. search needs) (λ c. search needs) mul-d add-d sub-d mul-d-2 (λ c. omega arith) add-d-2 (λ c. search needs) mul-from
+    add-to (λ c. search needs) (λ c. search needs) (λ c. search needs) cast-carried-word-2 carried-word-requires mul-encrypted (λ c. search needs)
+    (λ c. search needs) part-encrypted-end mul-encrypted-2 shared-slice-read-encrypted encrypted-requires (λ c. search needs) returns)

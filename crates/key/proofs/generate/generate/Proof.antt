@@ -45,15 +45,6 @@ ends c =
     let o = c .before .before .before .before .before .before .before .before .pre .1 in
     omega arith
 
-cast-width : tie.Need-cast-width Inv-loop μ-loop
-cast-width c = search needs
-
-add-width : tie.Need-add-width Inv-loop μ-loop
-add-width c = search needs
-
-div-rows : tie.Need-div-rows Inv-loop μ-loop
-div-rows c = omega arith
-
 loop-holds : tie.Need-loop-holds Inv-loop μ-loop
 loop-holds c =
     let g = c .before .before .before .before .before .before .args in
@@ -68,12 +59,6 @@ add-end c = omega (arith, ends c)
 
 mul-row-into : tie.Need-mul-row-into Inv-loop μ-loop
 mul-row-into c = omega (arith, ends c)
-
-sub-row-into : tie.Need-sub-row-into Inv-loop μ-loop
-sub-row-into c = search needs
-
-part-row-into-start : tie.Need-part-row-into-start Inv-loop μ-loop
-part-row-into-start c = search needs
 
 part-row-into-end : tie.Need-part-row-into-end Inv-loop μ-loop
 part-row-into-end c = omega (arith, ends c)
@@ -112,22 +97,5 @@ returns c =
 pub generate-spec : {M : Type 1} → statement M
 generate-spec =
     tie.close
-    (tie.spec
-    Inv-loop
-    μ-loop
-    cast-width
-    add-width
-    div-rows
-    loop-holds
-    mul-at
-    add-end
-    mul-row-into
-    sub-row-into
-    part-row-into-start
-    part-row-into-end
-    row-into-requires
-    add-r
-    loop-less
-    loop-again
-    same-length
-    returns)
+    (tie.spec Inv-loop μ-loop (λ c. search needs) (λ c. search needs) (λ c. omega arith) loop-holds mul-at add-end mul-row-into (λ c. search needs)
+    (λ c. search needs) part-row-into-end row-into-requires add-r loop-less loop-again same-length returns)

@@ -22,30 +22,6 @@ abbrev μ-loop : tie.MeasureT-loop
 loop-holds : tie.Need-loop-holds Inv-loop μ-loop
 loop-holds c = (omega arith, sum-none _)
 
-mul-mul : tie.Need-mul-mul Inv-loop μ-loop
-mul-mul c = omega arith
-
-shared-slice-read-mul : tie.Need-shared-slice-read-mul Inv-loop μ-loop
-shared-slice-read-mul c = omega arith
-
-mul-mul-2 : tie.Need-mul-mul-2 Inv-loop μ-loop
-mul-mul-2 c = omega arith
-
-shared-slice-read-mul-2 : tie.Need-shared-slice-read-mul-2 Inv-loop μ-loop
-shared-slice-read-mul-2 c = omega arith
-
-mul-requires : tie.Need-mul-requires Inv-loop μ-loop
-mul-requires c κs = search needs
-
-add-requires : tie.Need-add-requires Inv-loop μ-loop
-add-requires c κs = search needs
-
-add-i : tie.Need-add-i Inv-loop μ-loop
-add-i c = omega arith
-
-loop-less : tie.Need-loop-less Inv-loop μ-loop
-loop-less c = omega arith
-
 loop-again : tie.Need-loop-again Inv-loop μ-loop
 loop-again c =
     let l = c .before .before .before .before .before .loop in
@@ -58,17 +34,5 @@ returns c = let l = c .before .loop in sum-done _ (l .inv .0) (c .loop-test .lef
 pub masks-sum-spec : {M : Type 1} → statement M
 masks-sum-spec =
     tie.close
-    (tie.spec
-    Inv-loop
-    μ-loop
-    loop-holds
-    mul-mul
-    shared-slice-read-mul
-    mul-mul-2
-    shared-slice-read-mul-2
-    mul-requires
-    add-requires
-    add-i
-    loop-less
-    loop-again
-    returns)
+    (tie.spec Inv-loop μ-loop loop-holds (λ c. omega arith) (λ c. omega arith) (λ c. omega arith) (λ c. omega arith) (λ c κs. search needs)
+    (λ c κs. search needs) (λ c. omega arith) (λ c. omega arith) loop-again returns)

@@ -16,23 +16,8 @@ use Rattle.key.proofs.generate.row_into.Tie as tie
 base-is : (c : tie.After-power) → c .power .result ≡ base (c .before .before .before .before .before .before .args .p)
 base-is c = base-code (c .before .before .before .before .before .before .args .p) (c .before .before .before .before .before .before .pre .0 .range) (c .power .ensures)
 
-power-requires : tie.Need-power-requires
-power-requires c κs = search needs
-
-cast-base : tie.Need-cast-base
-cast-base c = search needs
-
-cast-t : tie.Need-cast-t
-cast-t c = search needs
-
 rem-k : tie.Need-rem-k
 rem-k c = omega (arith, base-is (c .before), base-from (c .before .before .before .before .before .before .before .args .p))
-
-fill-requires : tie.Need-fill-requires
-fill-requires c κs = search needs
-
-same-length : tie.Need-same-length
-same-length c = search needs
 
 returns : tie.Need-returns
 returns c =
@@ -44,12 +29,6 @@ returns c =
 div-field : tie.Need-div-field
 div-field c = omega (arith, base-is (c .before .before), base-from (c .before .before .before .before .before .before .before .before .args .p))
 
-div-i : tie.Need-div-i
-div-i c = search needs
-
-rem-j : tie.Need-rem-j
-rem-j c = search needs
-
 drawn-into-requires : tie.Need-drawn-into-requires
 drawn-into-requires c κs =
     let g = c .before .before .before .before .before .before .before .before .before .args in
@@ -58,9 +37,6 @@ drawn-into-requires c κs =
     let from = h .0 .range .t-from in
     let k = c .before .if1 .left in
     (h .0, rw (e .0) (outer-below (g .p) from (g .r) (h .1)), rw (e .1) (field-below (g .p) from (g .r) (h .1)), omega arith, rw (e .2) (digit-below (g .p) from (g .r) (h .1)), h .2)
-
-same-length-2 : tie.Need-same-length-2
-same-length-2 c = search needs
 
 returns-2 : tie.Need-returns-2
 returns-2 c =
@@ -72,17 +48,5 @@ returns-2 c =
 pub row-into-spec : {M : Type 1} → statement M
 row-into-spec =
     tie.close
-    (tie.spec
-    power-requires
-    cast-base
-    cast-t
-    rem-k
-    fill-requires
-    same-length
-    returns
-    div-field
-    div-i
-    rem-j
-    drawn-into-requires
-    same-length-2
-    returns-2)
+    (tie.spec (λ c κs. search needs) (λ c. search needs) (λ c. search needs) rem-k (λ c κs. search needs) (λ c. search needs) returns div-field
+    (λ c. search needs) (λ c. search needs) drawn-into-requires (λ c. search needs) returns-2)

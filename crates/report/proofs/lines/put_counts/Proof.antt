@@ -17,21 +17,12 @@ use Rattle.report.proofs.Pieces.{Written, written-next, length-named, c
 use Rattle.report.proofs.lines.put_counts.Statement.{statement}
 use Rattle.report.proofs.lines.put_counts.Tie as tie
 
-counts-requires : tie.Need-counts-requires
-counts-requires c κs = search needs
-
-slice-aggregate-put-named : tie.Need-slice-aggregate-put-named
-slice-aggregate-put-named c = search needs
-
 put-named-requires : tie.Need-put-named-requires
 put-named-requires c κs =
     let b = now (c .before .before .before .before .before .args .bytes) in
     let h = accepted b (c .before .before .before .before .before .pre .0) .head in
     let v = counts-version b (c .before .before .counts .ensures) in
     (omega arith, omega arith)
-
-slice-aggregate-put-named-2 : tie.Need-slice-aggregate-put-named-2
-slice-aggregate-put-named-2 c = search needs
 
 put-named-requires-2 : tie.Need-put-named-requires-2
 put-named-requires-2 c κs =
@@ -44,9 +35,6 @@ put-named-requires-2 c κs =
     let e = c .before .before .before .before .put-named .ensures in
     let k = c .before .before .before .before .put-named .kept .0 in
     (omega arith, omega arith)
-
-slice-aggregate-put-named-3 : tie.Need-slice-aggregate-put-named-3
-slice-aggregate-put-named-3 c = search needs
 
 put-named-requires-3 : tie.Need-put-named-requires-3
 put-named-requires-3 c κs =
@@ -63,9 +51,6 @@ put-named-requires-3 c κs =
     let k1 = c .before .before .before .before .before .before .before .before .before .put-named .kept .0 in
     let k2 = c .before .before .before .before .put-named2 .kept .0 in
     (omega arith, omega arith)
-
-same-length : tie.Need-same-length
-same-length c = search needs
 
 returns : tie.Need-returns
 unfolding countsText countsOf
@@ -91,13 +76,5 @@ returns c =
 pub put-counts-spec : {M : Type 1} → statement M
 put-counts-spec =
     tie.close
-    (tie.spec
-    counts-requires
-    slice-aggregate-put-named
-    put-named-requires
-    slice-aggregate-put-named-2
-    put-named-requires-2
-    slice-aggregate-put-named-3
-    put-named-requires-3
-    same-length
-    returns)
+    (tie.spec (λ c κs. search needs) (λ c. search needs) put-named-requires (λ c. search needs) put-named-requires-2 (λ c. search needs) put-named-requires-3
+    (λ c. search needs) returns)

@@ -15,15 +15,6 @@ use Rattle.report.proofs.Pieces.{Written, written-next, length-named, l
 use Rattle.report.proofs.lines.put_head.Statement.{statement}
 use Rattle.report.proofs.lines.put_head.Tie as tie
 
-counts-requires : tie.Need-counts-requires
-counts-requires c κs = search needs
-
-put-counts-requires : tie.Need-put-counts-requires
-put-counts-requires c κs = search needs
-
-slice-aggregate-put-named : tie.Need-slice-aggregate-put-named
-slice-aggregate-put-named c = search needs
-
 put-named-requires : tie.Need-put-named-requires
 put-named-requires c κs =
     let b = now (c .before .before .before .before .before .before .before .before .before .args .bytes) in
@@ -33,9 +24,6 @@ put-named-requires c κs =
     let e = c .before .before .before .before .put-counts .ensures in
     let k = c .before .before .before .before .put-counts .kept .1 .0 in
     (omega arith, omega arith)
-
-slice-aggregate-put-named-2 : tie.Need-slice-aggregate-put-named-2
-slice-aggregate-put-named-2 c = search needs
 
 put-named-requires-2 : tie.Need-put-named-requires-2
 put-named-requires-2 c κs =
@@ -66,9 +54,6 @@ put-byte-requires c κs =
     let k3 = c .before .before .before .put-named2 .kept .0 in
     omega arith
 
-same-length : tie.Need-same-length
-same-length c = search needs
-
 returns : tie.Need-returns
 unfolding headText
 returns c =
@@ -94,13 +79,5 @@ returns c =
 pub put-head-spec : {M : Type 1} → statement M
 put-head-spec =
     tie.close
-    (tie.spec
-    counts-requires
-    put-counts-requires
-    slice-aggregate-put-named
-    put-named-requires
-    slice-aggregate-put-named-2
-    put-named-requires-2
-    put-byte-requires
-    same-length
-    returns)
+    (tie.spec (λ c κs. search needs) (λ c κs. search needs) (λ c. search needs) put-named-requires (λ c. search needs) put-named-requires-2 put-byte-requires
+    (λ c. search needs) returns)

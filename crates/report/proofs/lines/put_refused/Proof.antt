@@ -11,15 +11,6 @@ use Rattle.report.proofs.Pieces.{Written, written-next, length-named}
 use Rattle.report.proofs.lines.put_refused.Statement.{statement}
 use Rattle.report.proofs.lines.put_refused.Tie as tie
 
-slice-aggregate-put-named : tie.Need-slice-aggregate-put-named
-slice-aggregate-put-named c = search needs
-
-put-named-requires : tie.Need-put-named-requires
-put-named-requires c κs = search needs
-
-slice-aggregate-put-named-2 : tie.Need-slice-aggregate-put-named-2
-slice-aggregate-put-named-2 c = search needs
-
 put-named-requires-2 : tie.Need-put-named-requires-2
 put-named-requires-2 c κs =
     let a = c .before .before .before .before .before .before .before .before .args in
@@ -39,9 +30,6 @@ put-byte-requires c κs =
     let k2 = c .before .before .before .put-named2 .kept .0 in
     omega arith
 
-same-length : tie.Need-same-length
-same-length c = search needs
-
 returns : tie.Need-returns
 unfolding refusedText
 returns c =
@@ -59,11 +47,4 @@ returns c =
 pub put-refused-spec : {M : Type 1} → statement M
 put-refused-spec =
     tie.close
-    (tie.spec
-    slice-aggregate-put-named
-    put-named-requires
-    slice-aggregate-put-named-2
-    put-named-requires-2
-    put-byte-requires
-    same-length
-    returns)
+    (tie.spec (λ c. search needs) (λ c κs. search needs) (λ c. search needs) put-named-requires-2 put-byte-requires (λ c. search needs) returns)

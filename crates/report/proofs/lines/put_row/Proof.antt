@@ -10,9 +10,6 @@ use Rattle.report.proofs.Pieces.{counts-inputs, counts-outputs}
 use Rattle.report.proofs.lines.put_row.Statement.{statement}
 use Rattle.report.proofs.lines.put_row.Tie as tie
 
-counts-requires : tie.Need-counts-requires
-counts-requires c κs = search needs
-
 array-borrow-prefix-ins : tie.Need-array-borrow-prefix-ins
 array-borrow-prefix-ins c = let i = counts-inputs _ (c .counts .ensures) in omega arith
 
@@ -32,21 +29,11 @@ put-row-over-requires c κs =
     let o = counts-outputs _ (c .before .before .before .counts .ensures) in
     ((p .0, p .1, p .2), (length-take-le (c .before .before .before .counts .result .inputs) (replicate 80 0) (omega arith) ∙ i, length-take-le (c .before .before .before .counts .result .outputs) (replicate 80 0) (omega arith) ∙ o, p .3))
 
-same-length : tie.Need-same-length
-same-length c = search needs
-
 returns : tie.Need-returns
 returns c = c .before .before .before .before .put-row-over .ensures
 
 pub put-row-spec : {M : Type 1} → statement M
 put-row-spec =
     tie.close
-    (tie.spec
-    counts-requires
-    array-borrow-prefix-ins
-    slice-aggregate-put-row-over
-    array-borrow-prefix-outs
-    slice-aggregate-put-row-over-2
-    put-row-over-requires
-    same-length
-    returns)
+    (tie.spec (λ c κs. search needs) array-borrow-prefix-ins slice-aggregate-put-row-over array-borrow-prefix-outs slice-aggregate-put-row-over-2
+    put-row-over-requires (λ c. search needs) returns)

@@ -15,24 +15,6 @@ use Rattle.report.specs.Text.{lineText, rowInputs, rowText}
 use Rattle.report.proofs.lines.put_row_over.Statement.{statement}
 use Rattle.report.proofs.lines.put_row_over.Tie as tie
 
-row-inputs-requires : tie.Need-row-inputs-requires
-row-inputs-requires c κs = search needs
-
-run-plain-requires : tie.Need-run-plain-requires
-run-plain-requires c κs = search needs
-
-put-line-requires : tie.Need-put-line-requires
-put-line-requires c κs = search needs
-
-same-length : tie.Need-same-length
-same-length c = search needs
-
-same-length-2 : tie.Need-same-length-2
-same-length-2 c = search needs
-
-same-length-3 : tie.Need-same-length-3
-same-length-3 c = search needs
-
 returns : tie.Need-returns
 unfolding rowText
 returns c =
@@ -51,11 +33,4 @@ returns c =
 pub put-row-over-spec : {M : Type 1} → statement M
 put-row-over-spec =
     tie.close
-    (tie.spec
-    row-inputs-requires
-    run-plain-requires
-    put-line-requires
-    same-length
-    same-length-2
-    same-length-3
-    returns)
+    (tie.spec (λ c κs. search needs) (λ c κs. search needs) (λ c κs. search needs) (λ c. search needs) (λ c. search needs) (λ c. search needs) returns)

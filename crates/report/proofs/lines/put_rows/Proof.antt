@@ -17,9 +17,6 @@ Inv-loop bytes out₀ at rows to₀ r₀ out to r = (r ≤ rows) × (length out 
 abbrev μ-loop : tie.MeasureT-loop
 μ-loop bytes out₀ at rows to₀ r₀ out to r = rows - r
 
-counts-requires : tie.Need-counts-requires Inv-loop μ-loop
-counts-requires c κs = tt
-
 two-to-requires : tie.Need-two-to-requires Inv-loop μ-loop
 two-to-requires c κs = let i = counts-inputs _ (c .counts .ensures) in omega arith
 
@@ -37,12 +34,6 @@ put-row-requires c κs =
     let w = c .before .before .loop .inv .2 .place in
     (p .0, p .1, p .2, omega arith)
 
-add-r : tie.Need-add-r Inv-loop μ-loop
-add-r c = omega arith
-
-loop-less : tie.Need-loop-less Inv-loop μ-loop
-loop-less c = omega arith
-
 loop-again : tie.Need-loop-again Inv-loop μ-loop
 loop-again c =
     let a = c .before .before .before .before .before .before .before .before .before .before .args in
@@ -57,9 +48,6 @@ loop-again c =
     let d = c .before .before .put-row .ensures in
     (omega arith, c .before .before .put-row .kept .1 .1 .0 ∙ v .1, rw (rows-more b (c .before .before .before .before .before .loop .r)) (written-next (now (a .out)) (a .at) (rowsTo b (c .before .before .before .before .before .loop .r)) (rowText b (c .before .before .before .before .before .loop .r)) (v .2) (omega arith) (d .0) (d .1)))
 
-same-length : tie.Need-same-length Inv-loop μ-loop
-same-length c = omega arith
-
 returns : tie.Need-returns Inv-loop μ-loop
 returns c =
     let a = c .before .before .before .before .before .before .args in
@@ -72,15 +60,5 @@ returns c =
 pub put-rows-spec : {M : Type 1} → statement M
 put-rows-spec =
     tie.close
-    (tie.spec
-    Inv-loop
-    μ-loop
-    counts-requires
-    two-to-requires
-    loop-holds
-    put-row-requires
-    add-r
-    loop-less
-    loop-again
-    same-length
+    (tie.spec Inv-loop μ-loop (λ c κs. tt) two-to-requires loop-holds put-row-requires (λ c. omega arith) (λ c. omega arith) loop-again (λ c. omega arith)
     returns)

@@ -18,15 +18,6 @@ use Rattle.report.proofs.Texts.{work-said, work-value, text-refused, te
 use Rattle.report.proofs.lines.put_text.Statement.{statement}
 use Rattle.report.proofs.lines.put_text.Tie as tie
 
-work-requires : tie.Need-work-requires
-work-requires c κs = search needs
-
-put-refused-requires : tie.Need-put-refused-requires
-put-refused-requires c κs = search needs
-
-same-length : tie.Need-same-length
-same-length c = search needs
-
 returns : tie.Need-returns
 returns c =
     let a = c .before .before .before .before .before .before .before .before .before .before .args in
@@ -43,12 +34,6 @@ put-head-requires c κs =
     let w = c .before .before .before .before .work .ensures in
     let z = sym (ap (λ (x : Answer). x .number) (work-said b w)) ∙ c .before .if1 .left in
     (z, work-value b w z, omega arith)
-
-counts-requires : tie.Need-counts-requires
-counts-requires c κs = search needs
-
-same-length-2 : tie.Need-same-length-2
-same-length-2 c = search needs
 
 returns-2 : tie.Need-returns-2
 returns-2 c =
@@ -74,9 +59,6 @@ put-rows-requires c κs =
     let k = c .before .before .before .before .before .before .put-head .kept .1 .1 .0 in
     (z, omega arith, v .head .outputs-to, omega arith)
 
-same-length-3 : tie.Need-same-length-3
-same-length-3 c = search needs
-
 returns-3 : tie.Need-returns-3
 returns-3 c =
     let a = c .before .before .before .before .before .before .before .before .before .before .before .before .before .before .before .before .before .args in
@@ -100,15 +82,5 @@ returns-3 c =
 pub put-text-spec : {M : Type 1} → statement M
 put-text-spec =
     tie.close
-    (tie.spec
-    work-requires
-    put-refused-requires
-    same-length
-    returns
-    put-head-requires
-    counts-requires
-    same-length-2
-    returns-2
-    put-rows-requires
-    same-length-3
-    returns-3)
+    (tie.spec (λ c κs. search needs) (λ c κs. search needs) (λ c. search needs) returns put-head-requires (λ c κs. search needs) (λ c. search needs) returns-2
+    put-rows-requires (λ c. search needs) returns-3)

@@ -21,32 +21,14 @@ abbrev μ-loop : tie.MeasureT-loop
 loop-holds : tie.Need-loop-holds Inv-loop μ-loop
 loop-holds c = (omega arith, refl, tab-none _ _)
 
-two-to-requires : tie.Need-two-to-requires Inv-loop μ-loop
-two-to-requires c κs = omega arith
-
 div-ins : tie.Need-div-ins Inv-loop μ-loop
 div-ins c = rw (c .two-to .ensures) (pow-pos _)
-
-cast-ins : tie.Need-cast-ins Inv-loop μ-loop
-cast-ins c = omega arith
-
-slice-write-ins : tie.Need-slice-write-ins Inv-loop μ-loop
-slice-write-ins c = omega arith
-
-add-i : tie.Need-add-i Inv-loop μ-loop
-add-i c = omega arith
-
-loop-less : tie.Need-loop-less Inv-loop μ-loop
-loop-less c = omega arith
 
 loop-again : tie.Need-loop-again Inv-loop μ-loop
 loop-again c =
     let a = c .before .before .before .before .args in
     let i = c .before .before .loop .inv in
     (omega arith, simp length-set (i .1), tab-more (λ j. a .r / 2 ^ j % 2) (now (a .ins)) (c .before .before .loop .i) (omega arith) (i .2) (ap (λ (k : ℕ). a .r / k % 2) (c .two-to .ensures)))
-
-same-length : tie.Need-same-length Inv-loop μ-loop
-same-length c = omega arith
 
 returns : tie.Need-returns Inv-loop μ-loop
 returns c =
@@ -56,16 +38,5 @@ returns c =
 pub row-inputs-spec : {M : Type 1} → statement M
 row-inputs-spec =
     tie.close
-    (tie.spec
-    Inv-loop
-    μ-loop
-    loop-holds
-    two-to-requires
-    div-ins
-    cast-ins
-    slice-write-ins
-    add-i
-    loop-less
-    loop-again
-    same-length
-    returns)
+    (tie.spec Inv-loop μ-loop loop-holds (λ c κs. omega arith) div-ins (λ c. omega arith) (λ c. omega arith) (λ c. omega arith) (λ c. omega arith) loop-again
+    (λ c. omega arith) returns)

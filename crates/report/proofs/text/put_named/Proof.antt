@@ -10,9 +10,6 @@ use Rattle.report.proofs.Pieces.{Written, written-next}
 use Rattle.report.proofs.text.put_named.Statement.{statement}
 use Rattle.report.proofs.text.put_named.Tie as tie
 
-put-requires : tie.Need-put-requires
-put-requires c κs = search needs
-
 put-number-requires : tie.Need-put-number-requires
 put-number-requires c κs =
     let a = c .before .before .before .before .before .before .before .args in
@@ -20,9 +17,6 @@ put-number-requires c κs =
     let e = c .before .before .before .put .ensures in
     let k = c .before .before .before .put .kept .0 in
     omega arith
-
-same-length : tie.Need-same-length
-same-length c = search needs
 
 returns : tie.Need-returns
 unfolding named
@@ -34,4 +28,5 @@ returns c =
     (w .place, w .text)
 
 pub put-named-spec : {M : Type 1} → statement M
-put-named-spec = tie.close (tie.spec put-requires put-number-requires same-length returns)
+put-named-spec = tie.close
+    (tie.spec (λ c κs. search needs) put-number-requires (λ c. search needs) returns)

@@ -9,9 +9,6 @@ use borrow.Author.Needs.{needs}
 use Rattle.tlwe.proofs.decryption.decrypt_bit.Statement.{statement}
 use Rattle.tlwe.proofs.decryption.decrypt_bit.Tie as tie
 
-phase-of-requires : tie.Need-phase-of-requires
-phase-of-requires c κs = search needs
-
 returns : tie.Need-returns
 returns c =
     let e = c .before .before .before .before .phase-of .ensures in
@@ -27,4 +24,5 @@ returns-2 c =
     (e .0, done _ _ _ z (ap bitOf (e .1 ∙ when-done _ _ _ z)))
 
 pub decrypt-bit-spec : {M : Type 1} → statement M
-decrypt-bit-spec = tie.close (tie.spec phase-of-requires returns returns-2)
+decrypt-bit-spec = tie.close
+    (tie.spec (λ c κs. search needs) returns returns-2)

@@ -13,9 +13,6 @@ use borrow.Author.Needs.{needs}
 use Rattle.tlwe.proofs.decryption.decrypt_message.Statement.{statement}
 use Rattle.tlwe.proofs.decryption.decrypt_message.Tie as tie
 
-phase-of-requires : tie.Need-phase-of-requires
-phase-of-requires c κs = search needs
-
 returns : tie.Need-returns
 returns c =
     let a = c .before .before .before .before .before .before .before .args in
@@ -24,9 +21,6 @@ returns c =
     let b = keyed-before (a .p) (a .level) (length (now (a .c))) (now (a .key)) (modulusNumber (a .modulus)) (λ z. c .if1 .taken (n ∙ z)) in
     (e .0 ∙ ap answer b, kept _ _ _ (λ z. c .if1 .taken (n ∙ b ∙ z)))
 
-modulus-number-requires : tie.Need-modulus-number-requires
-modulus-number-requires c κs = search needs
-
 returns-2 : tie.Need-returns-2
 returns-2 c =
     let a = c .before .before .before .before .before .before .before .before .before .args in
@@ -34,9 +28,6 @@ returns-2 c =
     let n = ap (λ (x : Answer). x .number) (e .0) in
     let m = c .before .modulus-number .ensures ∙ sym (keyed-then (a .p) (a .level) (length (now (a .c))) (now (a .key)) (modulusNumber (a .modulus)) (sym n ∙ c .before .before .if1 .left)) in
     (ap answer m, kept _ _ _ (λ z. c .if2 .taken (m ∙ z)))
-
-message-of-requires : tie.Need-message-of-requires
-message-of-requires c κs = search needs
 
 returns-3 : tie.Need-returns-3
 returns-3 c =
@@ -50,10 +41,4 @@ returns-3 c =
 pub decrypt-message-spec : {M : Type 1} → statement M
 decrypt-message-spec =
     tie.close
-    (tie.spec
-    phase-of-requires
-    returns
-    modulus-number-requires
-    returns-2
-    message-of-requires
-    returns-3)
+    (tie.spec (λ c κs. search needs) returns (λ c κs. search needs) returns-2 (λ c κs. search needs) returns-3)

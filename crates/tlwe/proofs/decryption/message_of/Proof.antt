@@ -4,7 +4,6 @@ use mathlib.Core.Path.{_≡_, refl}
 use Prim.Native.Nat.{ℕ, _+_, _*_, _≤_, _<_}
 use native.Mathlib.Nat.{mul-le-mul}
 use native.Mathlib.Omega.{arith}
-use borrow.Author.Needs.{needs}
 use Rattle.ring.specs.Word.{Q}
 use Rattle.ring.specs.Centre.{H}
 use Rattle.tlwe.proofs.Messages.{modulus-bounds}
@@ -34,4 +33,5 @@ unfolding H Q
 returns c = refl
 
 pub message-of-spec : {M : Type 1} → statement M
-message-of-spec = tie.close (tie.spec mul-steps mul-steps-2 add-steps rem-result returns)
+message-of-spec = tie.close
+    (tie.spec mul-steps mul-steps-2 add-steps rem-result returns)

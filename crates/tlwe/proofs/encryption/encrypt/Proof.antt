@@ -13,9 +13,6 @@ use borrow.Author.Needs.{needs}
 use Rattle.tlwe.proofs.encryption.encrypt.Statement.{statement}
 use Rattle.tlwe.proofs.encryption.encrypt.Tie as tie
 
-encrypt-lengths-requires : tie.Need-encrypt-lengths-requires
-encrypt-lengths-requires c κs = search needs
-
 returns : tie.Need-returns
 returns c =
     let a = c .before .before .before .before .before .args in
@@ -29,9 +26,6 @@ good c = encrypt-lent _ _ _ _ _ _ (sym (c .before .encrypt-lengths .ensures) ∙
 
 encrypt-into-requires : tie.Need-encrypt-into-requires
 encrypt-into-requires c κs = let g = good (c .before) in (g .keys ∙ sym (g .masks), g .result ∙ sym (ap (λ (k : ℕ). k + 1) (g .masks)))
-
-same-length : tie.Need-same-length
-same-length c = search needs
 
 returns-2 : tie.Need-returns-2
 returns-2 c =
@@ -49,4 +43,4 @@ returns-2 c =
 pub encrypt-spec : {M : Type 1} → statement M
 encrypt-spec =
     tie.close
-    (tie.spec encrypt-lengths-requires returns encrypt-into-requires same-length returns-2)
+    (tie.spec (λ c κs. search needs) returns encrypt-into-requires (λ c. search needs) returns-2)

@@ -10,9 +10,6 @@ use borrow.Author.Needs.{needs}
 use Rattle.tlwe.proofs.encryption.encrypt_into.Statement.{statement}
 use Rattle.tlwe.proofs.encryption.encrypt_into.Tie as tie
 
-inner-requires : tie.Need-inner-requires
-inner-requires c κs = search needs
-
 returns : tie.Need-returns
 returns c =
     let a = c .before .before .before .before .before .args in
@@ -20,20 +17,11 @@ returns c =
     let e = k ∙ key-before (now (a .key)) (plainNumber (a .plain)) (λ z. c .if1 .taken (k ∙ z)) in
     (e, kept _ _ _ (λ z. c .if1 .taken (e ∙ z)))
 
-plain-number-requires : tie.Need-plain-number-requires
-plain-number-requires c κs = search needs
-
 returns-2 : tie.Need-returns-2
 returns-2 c =
     let a = c .before .before .before .before .before .before .before .args in
     let e = c .before .plain-number .ensures ∙ key-then (now (a .key)) (plainNumber (a .plain)) (sym (c .before .before .before .inner .ensures .1) ∙ c .before .before .if1 .left) in
     (e, kept _ _ _ (λ z. c .if2 .taken (e ∙ z)))
-
-fill-requires : tie.Need-fill-requires
-fill-requires c κs = search needs
-
-same-length : tie.Need-same-length
-same-length c = search needs
 
 returns-3 : tie.Need-returns-3
 returns-3 c =
@@ -47,11 +35,4 @@ returns-3 c =
 pub encrypt-into-spec : {M : Type 1} → statement M
 encrypt-into-spec =
     tie.close
-    (tie.spec
-    inner-requires
-    returns
-    plain-number-requires
-    returns-2
-    fill-requires
-    same-length
-    returns-3)
+    (tie.spec (λ c κs. search needs) returns (λ c κs. search needs) returns-2 (λ c κs. search needs) (λ c. search needs) returns-3)

@@ -12,9 +12,6 @@ use borrow.Author.Needs.{needs}
 use Rattle.tlwe.proofs.encryption.encrypt_lengths.Statement.{statement}
 use Rattle.tlwe.proofs.encryption.encrypt_lengths.Tie as tie
 
-dimension-of-requires : tie.Need-dimension-of-requires
-dimension-of-requires c κs = search needs
-
 returns : tie.Need-returns
 unfolding encryptLengths
 returns c =
@@ -67,4 +64,4 @@ returns-5 c =
 pub encrypt-lengths-spec : {M : Type 1} → statement M
 encrypt-lengths-spec =
     tie.close
-    (tie.spec dimension-of-requires returns returns-2 returns-3 add-if4 returns-4 returns-5)
+    (tie.spec (λ c κs. search needs) returns returns-2 returns-3 add-if4 returns-4 returns-5)

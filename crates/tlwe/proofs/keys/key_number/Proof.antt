@@ -20,25 +20,10 @@ abbrev μ-loop : tie.MeasureT-loop
 loop-holds : tie.Need-loop-holds Inv-loop μ-loop
 loop-holds c = (omega arith, key-none (c .before .args .key .now))
 
-mul-seen : tie.Need-mul-seen Inv-loop μ-loop
-mul-seen c = omega arith
-
-shared-slice-read-seen : tie.Need-shared-slice-read-seen Inv-loop μ-loop
-shared-slice-read-seen c = omega arith
-
-add-i : tie.Need-add-i Inv-loop μ-loop
-add-i c = omega arith
-
-loop-less : tie.Need-loop-less Inv-loop μ-loop
-loop-less c = omega arith
-
 loop-again : tie.Need-loop-again Inv-loop μ-loop
 loop-again c =
     let b = c .before .before .loop in
     (omega arith, key-more (c .before .before .before .before .args .key .now) (b .i) (b .seen) (omega arith) (b .inv .1))
-
-seen-number-requires : tie.Need-seen-number-requires Inv-loop μ-loop
-seen-number-requires c κs = search needs
 
 returns : tie.Need-returns Inv-loop μ-loop
 returns c =
@@ -48,14 +33,4 @@ returns c =
 pub key-number-spec : {M : Type 1} → statement M
 key-number-spec =
     tie.close
-    (tie.spec
-    Inv-loop
-    μ-loop
-    loop-holds
-    mul-seen
-    shared-slice-read-seen
-    add-i
-    loop-less
-    loop-again
-    seen-number-requires
-    returns)
+    (tie.spec Inv-loop μ-loop loop-holds (λ c. omega arith) (λ c. omega arith) (λ c. omega arith) (λ c. omega arith) loop-again (λ c κs. search needs) returns)

@@ -12,9 +12,6 @@ use borrow.Author.Needs.{needs}
 use Rattle.tlwe.proofs.keys.keyed_lengths.Statement.{statement}
 use Rattle.tlwe.proofs.keys.keyed_lengths.Tie as tie
 
-dimension-of-requires : tie.Need-dimension-of-requires
-dimension-of-requires c κs = search needs
-
 returns : tie.Need-returns
 unfolding keyedLengths
 returns c =
@@ -56,4 +53,5 @@ returns-4 c =
 
 pub keyed-lengths-spec : {M : Type 1} → statement M
 keyed-lengths-spec =
-    tie.close (tie.spec dimension-of-requires returns add-if2 returns-2 returns-3 returns-4)
+    tie.close
+    (tie.spec (λ c κs. search needs) returns add-if2 returns-2 returns-3 returns-4)

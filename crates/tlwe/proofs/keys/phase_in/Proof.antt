@@ -10,18 +10,6 @@ use borrow.Author.Needs.{needs}
 use Rattle.tlwe.proofs.keys.phase_in.Statement.{statement}
 use Rattle.tlwe.proofs.keys.phase_in.Tie as tie
 
-inner-requires : tie.Need-inner-requires
-inner-requires c κs = search needs
-
-mul-sub : tie.Need-mul-sub
-mul-sub c = search needs
-
-shared-slice-read-sub : tie.Need-shared-slice-read-sub
-shared-slice-read-sub c = search needs
-
-sub-requires : tie.Need-sub-requires
-sub-requires c κs = search needs
-
 returns : tie.Need-returns
 unfolding samplePhase
 returns c =
@@ -30,4 +18,5 @@ returns c =
 
 pub phase-in-spec : {M : Type 1} → statement M
 phase-in-spec =
-    tie.close (tie.spec inner-requires mul-sub shared-slice-read-sub sub-requires returns)
+    tie.close
+    (tie.spec (λ c κs. search needs) (λ c. search needs) (λ c. search needs) (λ c κs. search needs) returns)

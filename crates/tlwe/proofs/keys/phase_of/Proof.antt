@@ -12,9 +12,6 @@ use borrow.Author.Needs.{needs}
 use Rattle.tlwe.proofs.keys.phase_of.Statement.{statement}
 use Rattle.tlwe.proofs.keys.phase_of.Tie as tie
 
-keyed-lengths-requires : tie.Need-keyed-lengths-requires
-keyed-lengths-requires c κs = search needs
-
 returns : tie.Need-returns
 returns c =
     let a = c .before .before .before .before .args in
@@ -46,4 +43,5 @@ returns-3 c =
 
 pub phase-of-spec : {M : Type 1} → statement M
 phase-of-spec =
-    tie.close (tie.spec keyed-lengths-requires returns phase-in-requires returns-2 returns-3)
+    tie.close
+    (tie.spec (λ c κs. search needs) returns phase-in-requires returns-2 returns-3)

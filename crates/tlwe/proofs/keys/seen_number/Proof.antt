@@ -11,4 +11,5 @@ returns-2 : tie.Need-returns-2
 returns-2 c = rw (le-leb _ 1 (c .if1 .left))
 
 pub seen-number-spec : {M : Type 1} → statement M
-seen-number-spec = tie.close (tie.spec returns returns-2)
+seen-number-spec = tie.close
+    (tie.spec returns returns-2)

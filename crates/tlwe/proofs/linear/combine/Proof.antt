@@ -3,7 +3,6 @@
 use mathlib.Core.Path.{_≡_, refl, sym, ap, _∙_}
 use mathlib.Core.List.{List}
 use Prim.Native.Nat.{ℕ, _+_, _*_, _%_}
-use native.Mathlib.Omega.{arith}
 use lib.ListN.{length}
 use denote.Ref.{now}
 use Rattle.ring.specs.Word.{Q, at}
@@ -16,18 +15,12 @@ use borrow.Author.Needs.{needs}
 use Rattle.tlwe.proofs.linear.combine.Statement.{statement}
 use Rattle.tlwe.proofs.linear.combine.Tie as tie
 
-linear-number-requires : tie.Need-linear-number-requires
-linear-number-requires c κs = search needs
-
 -- where the number is 0 the lengths match
 good : (c : tie.Then1) → let a = c .before .before .before .before .before .args in Matching (a .p) (a .level) (length (now (a .a))) (length (now (a .b))) (length (now (a .out)))
 good c = linear-good _ _ _ _ _ (sym (c .before .linear-number .ensures) ∙ c .if1 .taken)
 
 combine-into-requires : tie.Need-combine-into-requires
 combine-into-requires c κs = let g = good (c .before) in (g .first ∙ sym (g .result), g .second ∙ sym (g .result))
-
-same-length : tie.Need-same-length
-same-length c = search needs
 
 returns : tie.Need-returns
 returns c =
@@ -49,4 +42,5 @@ returns-2 c =
 
 pub combine-spec : {M : Type 1} → statement M
 combine-spec =
-    tie.close (tie.spec linear-number-requires combine-into-requires same-length returns returns-2)
+    tie.close
+    (tie.spec (λ c κs. search needs) combine-into-requires (λ c. search needs) returns returns-2)

@@ -22,40 +22,10 @@ abbrev μ-loop : tie.MeasureT-loop
 loop-holds : tie.Need-loop-holds Inv-loop μ-loop
 loop-holds c = (omega arith, refl, tab-none _ _)
 
-mul-weighted : tie.Need-mul-weighted Inv-loop μ-loop
-mul-weighted c = omega arith
-
-shared-slice-read-weighted : tie.Need-shared-slice-read-weighted Inv-loop μ-loop
-shared-slice-read-weighted c = omega arith
-
-mul-weighted-2 : tie.Need-mul-weighted-2 Inv-loop μ-loop
-mul-weighted-2 c = omega arith
-
-shared-slice-read-weighted-2 : tie.Need-shared-slice-read-weighted-2 Inv-loop μ-loop
-shared-slice-read-weighted-2 c = omega arith
-
-weighted-requires : tie.Need-weighted-requires Inv-loop μ-loop
-weighted-requires c κs = search needs
-
-mul-out : tie.Need-mul-out Inv-loop μ-loop
-mul-out c = omega arith
-
-slice-write-out : tie.Need-slice-write-out Inv-loop μ-loop
-slice-write-out c = omega arith
-
-add-i : tie.Need-add-i Inv-loop μ-loop
-add-i c = omega arith
-
-loop-less : tie.Need-loop-less Inv-loop μ-loop
-loop-less c = omega arith
-
 loop-again : tie.Need-loop-again Inv-loop μ-loop
 loop-again c =
     let b = c .before .before .before .before .loop in
     (omega arith, simp length-set (b .inv .1), tab-more _ _ (b .i) (omega arith) (b .inv .2) (c .weighted .ensures))
-
-same-length : tie.Need-same-length Inv-loop μ-loop
-same-length c = omega arith
 
 returns : tie.Need-returns Inv-loop μ-loop
 returns c = tab-done _ _ _ _ (omega arith) (omega arith) refl (c .before .loop .inv .2)
@@ -63,19 +33,5 @@ returns c = tab-done _ _ _ _ (omega arith) (omega arith) refl (c .before .loop .
 pub combine-into-spec : {M : Type 1} → statement M
 combine-into-spec =
     tie.close
-    (tie.spec
-    Inv-loop
-    μ-loop
-    loop-holds
-    mul-weighted
-    shared-slice-read-weighted
-    mul-weighted-2
-    shared-slice-read-weighted-2
-    weighted-requires
-    mul-out
-    slice-write-out
-    add-i
-    loop-less
-    loop-again
-    same-length
-    returns)
+    (tie.spec Inv-loop μ-loop loop-holds (λ c. omega arith) (λ c. omega arith) (λ c. omega arith) (λ c. omega arith) (λ c κs. search needs) (λ c. omega arith)
+    (λ c. omega arith) (λ c. omega arith) (λ c. omega arith) loop-again (λ c. omega arith) returns)

@@ -12,9 +12,6 @@ use borrow.Author.Needs.{needs}
 use Rattle.tlwe.proofs.linear.linear_number.Statement.{statement}
 use Rattle.tlwe.proofs.linear.linear_number.Tie as tie
 
-dimension-of-requires : tie.Need-dimension-of-requires
-dimension-of-requires c κs = search needs
-
 returns : tie.Need-returns
 unfolding linearNumber
 returns c =
@@ -36,9 +33,6 @@ returns-2 c =
     let e = d ∙ m .masks in
     simp (eq-eqb (paramsNumber (a .p)) 0 (m .good), ne-eqb (a .la) (words (a .p) (a .level)) (λ q. c .if2 .taken (q ∙ sym (ap (λ (n : ℕ). n + 1) e))))
 
-add-if3 : tie.Need-add-if3
-add-if3 c = search needs
-
 returns-3 : tie.Need-returns-3
 unfolding linearNumber
 returns-3 c =
@@ -47,9 +41,6 @@ returns-3 c =
     let m = some (a .p) (a .level) (λ e. c .before .before .if1 .left (d ∙ e)) in
     let e = d ∙ m .masks in
     simp (eq-eqb (paramsNumber (a .p)) 0 (m .good), eq-eqb (a .la) (words (a .p) (a .level)) (c .before .if2 .left ∙ ap (λ (n : ℕ). n + 1) e), ne-eqb (a .lb) (words (a .p) (a .level)) (λ q. c .if3 .taken (q ∙ sym (ap (λ (n : ℕ). n + 1) e))))
-
-add-if4 : tie.Need-add-if4
-add-if4 c = search needs
 
 returns-4 : tie.Need-returns-4
 unfolding linearNumber
@@ -72,13 +63,4 @@ returns-5 c =
 pub linear-number-spec : {M : Type 1} → statement M
 linear-number-spec =
     tie.close
-    (tie.spec
-    dimension-of-requires
-    returns
-    add-if2
-    returns-2
-    add-if3
-    returns-3
-    add-if4
-    returns-4
-    returns-5)
+    (tie.spec (λ c κs. search needs) returns add-if2 returns-2 (λ c. search needs) returns-3 (λ c. search needs) returns-4 returns-5)

@@ -14,15 +14,6 @@ use borrow.Author.Needs.{needs}
 use Rattle.tlwe.proofs.linear.sub_mul.Statement.{statement}
 use Rattle.tlwe.proofs.linear.sub_mul.Tie as tie
 
-negated-requires : tie.Need-negated-requires
-negated-requires c κs = search needs
-
-combine-requires : tie.Need-combine-requires
-combine-requires c κs = search needs
-
-same-length : tie.Need-same-length
-same-length c = search needs
-
 returns : tie.Need-returns
 returns c =
     let a = c .before .before .before .before .before .before .before .before .args in
@@ -35,4 +26,5 @@ returns c =
     )
 
 pub sub-mul-spec : {M : Type 1} → statement M
-sub-mul-spec = tie.close (tie.spec negated-requires combine-requires same-length returns)
+sub-mul-spec = tie.close
+    (tie.spec (λ c κs. search needs) (λ c κs. search needs) (λ c. search needs) returns)

@@ -7,12 +7,10 @@ use borrow.Author.Needs.{needs}
 use Rattle.tlwe.proofs.plaintexts.bit_word.Statement.{statement}
 use Rattle.tlwe.proofs.plaintexts.bit_word.Tie as tie
 
-returns : tie.Need-returns
-returns c = search needs
-
 returns-2 : tie.Need-returns-2
 unfolding Q
 returns-2 c = sym (ap bitWord (c .if1 .left))
 
 pub bit-word-spec : {M : Type 1} → statement M
-bit-word-spec = tie.close (tie.spec returns returns-2)
+bit-word-spec = tie.close
+    (tie.spec (λ c. search needs) returns-2)

@@ -31,4 +31,5 @@ unfolding H
 returns c = refl
 
 pub message-word-spec : {M : Type 1} → statement M
-message-word-spec = tie.close (tie.spec rem-m mul-word div-word cast-result returns)
+message-word-spec = tie.close
+    (tie.spec rem-m mul-word div-word cast-result returns)

@@ -11,4 +11,5 @@ returns-2 : tie.Need-returns-2
 returns-2 c = modulus-refused _ (c .match .rest .1)
 
 pub modulus-number-spec : {M : Type 1} → statement M
-modulus-number-spec = tie.close (tie.spec returns returns-2)
+modulus-number-spec = tie.close
+    (tie.spec returns returns-2)

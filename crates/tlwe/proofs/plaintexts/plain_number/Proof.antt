@@ -6,35 +6,10 @@ use borrow.Author.Needs.{needs}
 use Rattle.tlwe.proofs.plaintexts.plain_number.Statement.{statement}
 use Rattle.tlwe.proofs.plaintexts.plain_number.Tie as tie
 
-enum-told : tie.Need-enum-told
-enum-told c = search needs
-
-enum-told-2 : tie.Need-enum-told-2
-enum-told-2 c = search needs
-
-enum-known-plain : tie.Need-enum-known-plain
-enum-known-plain c = search needs
-
-modulus-number-requires : tie.Need-modulus-number-requires
-modulus-number-requires c κs = search needs
-
-returns : tie.Need-returns
-returns c = search needs
-
-returns-2 : tie.Need-returns-2
-returns-2 c = search needs
-
 returns-3 : tie.Need-returns-3
 returns-3 c = let g = c .before .before .plain .given in c .modulus-number .ensures ∙ sym (ap plainNumber (g .1))
 
 pub plain-number-spec : {M : Type 1} → statement M
 plain-number-spec =
     tie.close
-    (tie.spec
-    enum-told
-    enum-told-2
-    enum-known-plain
-    modulus-number-requires
-    returns
-    returns-2
-    returns-3)
+    (tie.spec (λ c. search needs) (λ c. search needs) (λ c. search needs) (λ c κs. search needs) (λ c. search needs) (λ c. search needs) returns-3)

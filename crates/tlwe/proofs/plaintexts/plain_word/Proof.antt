@@ -6,26 +6,8 @@ use borrow.Author.Needs.{needs}
 use Rattle.tlwe.proofs.plaintexts.plain_word.Statement.{statement}
 use Rattle.tlwe.proofs.plaintexts.plain_word.Tie as tie
 
-enum-known-plain : tie.Need-enum-known-plain
-enum-known-plain c = search needs
-
-bit-word-requires : tie.Need-bit-word-requires
-bit-word-requires c κs = search needs
-
-enum-known-plain-2 : tie.Need-enum-known-plain-2
-enum-known-plain-2 c = search needs
-
-f64-to-torus-requires : tie.Need-f64-to-torus-requires
-f64-to-torus-requires c κs = search needs
-
-enum-known-plain-3 : tie.Need-enum-known-plain-3
-enum-known-plain-3 c = search needs
-
 message-word-requires : tie.Need-message-word-requires
 message-word-requires c κs = sym (ap plainNumber (c .before .plain3 .given .1)) ∙ c .before .before .before .pre
-
-returns : tie.Need-returns
-returns c = search needs
 
 returns-2 : tie.Need-returns-2
 returns-2 c = c .f64-to-torus .ensures ∙ sym (ap plainWord (c .before .before .plain2 .given .1))
@@ -36,13 +18,5 @@ returns-3 c = c .message-word .ensures ∙ sym (ap plainWord (c .before .before 
 pub plain-word-spec : {M : Type 1} → statement M
 plain-word-spec =
     tie.close
-    (tie.spec
-    enum-known-plain
-    bit-word-requires
-    enum-known-plain-2
-    f64-to-torus-requires
-    enum-known-plain-3
-    message-word-requires
-    returns
-    returns-2
-    returns-3)
+    (tie.spec (λ c. search needs) (λ c κs. search needs) (λ c. search needs) (λ c κs. search needs) (λ c. search needs) message-word-requires
+    (λ c. search needs) returns-2 returns-3)

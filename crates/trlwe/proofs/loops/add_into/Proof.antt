@@ -23,33 +23,6 @@ abbrev μ-loop : tie.MeasureT-loop
 loop-holds : tie.Need-loop-holds Inv-loop μ-loop
 loop-holds c = (omega arith, refl, tab-none _ _)
 
-mul-add : tie.Need-mul-add Inv-loop μ-loop
-mul-add c = omega arith
-
-slice-read-add : tie.Need-slice-read-add Inv-loop μ-loop
-slice-read-add c = omega arith
-
-mul-add-2 : tie.Need-mul-add-2 Inv-loop μ-loop
-mul-add-2 c = omega arith
-
-shared-slice-read-add : tie.Need-shared-slice-read-add Inv-loop μ-loop
-shared-slice-read-add c = omega arith
-
-add-requires : tie.Need-add-requires Inv-loop μ-loop
-add-requires c κs = search needs
-
-mul-out : tie.Need-mul-out Inv-loop μ-loop
-mul-out c = omega arith
-
-slice-write-out : tie.Need-slice-write-out Inv-loop μ-loop
-slice-write-out c = omega arith
-
-add-i : tie.Need-add-i Inv-loop μ-loop
-add-i c = omega arith
-
-loop-less : tie.Need-loop-less Inv-loop μ-loop
-loop-less c = omega arith
-
 loop-again : tie.Need-loop-again Inv-loop μ-loop
 loop-again c =
     let g = c .before .before .before .before .before .before .before .args in
@@ -58,9 +31,6 @@ loop-again c =
     let r = tab-read _ (now (g .out)) (l .i) h (l .inv .2) in
     (omega arith, simp length-set (l .inv .1), tab-more _ (now (g .out)) (l .i) h (l .inv .2) (c .add .ensures ∙ ap (λ (y : ℕ). (y + at (now (g .source)) (l .i)) % Q) r))
 
-same-length : tie.Need-same-length Inv-loop μ-loop
-same-length c = omega arith
-
 returns : tie.Need-returns Inv-loop μ-loop
 unfolding plus
 returns c = let l = c .before .loop in tab-done _ (now (c .before .before .before .before .args .out)) (l .i) _ (l .inv .0) (omega arith) refl (l .inv .2)
@@ -68,19 +38,5 @@ returns c = let l = c .before .loop in tab-done _ (now (c .before .before .befor
 pub add-into-spec : {M : Type 1} → statement M
 add-into-spec =
     tie.close
-    (tie.spec
-    Inv-loop
-    μ-loop
-    loop-holds
-    mul-add
-    slice-read-add
-    mul-add-2
-    shared-slice-read-add
-    add-requires
-    mul-out
-    slice-write-out
-    add-i
-    loop-less
-    loop-again
-    same-length
-    returns)
+    (tie.spec Inv-loop μ-loop loop-holds (λ c. omega arith) (λ c. omega arith) (λ c. omega arith) (λ c. omega arith) (λ c κs. search needs) (λ c. omega arith)
+    (λ c. omega arith) (λ c. omega arith) (λ c. omega arith) loop-again (λ c. omega arith) returns)

@@ -7,9 +7,6 @@ use Rattle.ring.specs.Centre.{H}
 use Rattle.trlwe.proofs.loops.bit_at.Statement.{statement}
 use Rattle.trlwe.proofs.loops.bit_at.Tie as tie
 
-sub-requires : tie.Need-sub-requires
-sub-requires c κs = search needs
-
 returns : tie.Need-returns
 unfolding H
 returns c = let e = c .before .sub .ensures in rw (← e, lt-ltb (c .before .sub .result) 2147483648 (omega arith))
@@ -19,4 +16,5 @@ unfolding H
 returns-2 c = let e = c .before .sub .ensures in rw (← e, le-ltb (c .before .sub .result) 2147483648 (omega arith))
 
 pub bit-at-spec : {M : Type 1} → statement M
-bit-at-spec = tie.close (tie.spec sub-requires returns returns-2)
+bit-at-spec = tie.close
+    (tie.spec (λ c κs. search needs) returns returns-2)

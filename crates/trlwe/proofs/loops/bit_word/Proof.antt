@@ -15,4 +15,5 @@ unfolding Q
 returns-2 c = rw (le-ltb 0 (c .before .args .byte) (omega arith))
 
 pub bit-word-spec : {M : Type 1} → statement M
-bit-word-spec = tie.close (tie.spec returns returns-2)
+bit-word-spec = tie.close
+    (tie.spec returns returns-2)
