@@ -6,7 +6,7 @@ use mathlib.Core.Bool.{cond}
 use mathlib.Core.List.{List, [], _∷_}
 use Prim.Native.Nat.{ℕ}
 use lib.Dec.{eqb}
-use Rattle.ring.specs.Word.{Q, neg, comp}
+use Rattle.ring.specs.Word.{Q, neg, comp, fieldOf}
 use Rattle.ring.specs.Sums.{sumTo, tab}
 use Rattle.ring.specs.Poly.{plus, minus, before, times, total}
 use Rattle.ring.specs.Turn.{source, rotated}
@@ -14,11 +14,13 @@ use Rattle.params.specs.declared.Params.{Params}
 use Rattle.params.specs.Published.{numbers}
 use Rattle.key.specs.Offset.{offset}
 use Rattle.rotation.specs.Amount.{half, step, maskAmount}
-use Rattle.decomposition.specs.Digit.{fieldOf, digitOf, digitPoly}
-use Rattle.decomposition.specs.Pair.{Pair, pairDigit}
-use Rattle.trgsw.specs.External.{part, rowA, rowB, external, cmuxOf}
+use Rattle.decomposition.specs.Digit.{digitOf, digitPoly}
+use Rattle.decomposition.specs.Pair.{pairDigit}
+use Rattle.trgsw.specs.External.{rowA, rowB, external, cmuxOf}
 use Rattle.blind_rotation.specs.Blind.{turned, bitRows, blindStep, stepsTo}
 use Rattle.blind_rotation.proofs.Steps.{pair}
+use Rattle.ring.specs.Pair.{Pair}
+use Rattle.ring.specs.Lists.{part}
 
 -- n 2, N 2, BGBIT 8, L 1
 abbrev two : Params

@@ -23,12 +23,12 @@ use Rattle.params.specs.Sizes.{size}
 use Rattle.params.proofs.Ranges.{size-from}
 use Rattle.rotation.specs.Amount.{maskAmount, bodyAmount}
 use Rattle.rotation.proofs.Amounts.{mask-below, body-to}
-use Rattle.decomposition.specs.Pair.{Pair}
 use Rattle.trgsw.specs.Errors.{digitErrors, lowPoly}
 use Rattle.blind_rotation.specs.Blind.{turned, bitRows, blindStep, stepsTo, startOf, blindRotated}
 use Rattle.blind_rotation.specs.Drift.{complementDrift, stepMoved, driftStep, driftTo, turnTo}
 use Rattle.blind_rotation.proofs.Phase.{step-phase-zero, step-phase-one}
 use Rattle.blind_rotation.proofs.Turn.{negating-negating, negating-mod, negating-plus}
+use Rattle.ring.specs.Pair.{Pair}
 
 -- ---- regrouping
 

@@ -17,12 +17,12 @@ use Rattle.params.specs.Sizes.{size}
 use Rattle.params.proofs.Ranges.{size-from}
 use Rattle.rotation.specs.Amount.{maskAmount}
 use Rattle.rotation.proofs.Amounts.{mask-below}
-use Rattle.decomposition.specs.Pair.{Pair}
-use Rattle.trgsw.specs.External.{pairMinus, external, cmuxOf}
+use Rattle.trgsw.specs.External.{external, cmuxOf}
 use Rattle.trgsw.specs.Errors.{digitErrors, lowPoly}
 use Rattle.trgsw.proofs.Phase.{external-phase, cleared-less}
 use Rattle.blind_rotation.specs.Blind.{turned, bitRows, blindStep}
 use Rattle.blind_rotation.specs.Drift.{stepMoved}
+use Rattle.ring.specs.Pair.{Pair, pairMinus}
 
 pub plus-comm : (N : ℕ) (a b : List ℕ) → plus N a b ≡ plus N b a
 unfolding plus

@@ -17,14 +17,14 @@ use Rattle.key.specs.Testvec.{testNumber, testA, testB}
 use Rattle.key.specs.Bits.{bitRowsNumber}
 use Rattle.key.proofs.Checks.{test-done, bit-done}
 use Rattle.product.proofs.Uses.{length-minus}
-use Rattle.decomposition.specs.Pair.{Pair}
 use Rattle.rotation.specs.declared.Rounded.{Rounded}
 use Rattle.rotation.specs.Amount.{maskAmount, bodyAmount, roundedTo}
 use Rattle.rotation.proofs.Amounts.{rounded-done}
-use Rattle.trgsw.specs.External.{pairPlus, pairMinus, external, cmuxOf}
+use Rattle.trgsw.specs.External.{external, cmuxOf}
 use Rattle.trgsw.specs.Refusals.{externalNumber, externalAddOut}
 use Rattle.trgsw.proofs.Checks.{external-done}
 use Rattle.blind_rotation.specs.Blind.{turned, bitRows, blindStep, stepsTo, startOf, testPair}
+use Rattle.ring.specs.Pair.{Pair, pairPlus, pairMinus}
 
 -- two polynomials as a pair
 abbrev pub pair : List ℕ → List ℕ → Pair

@@ -8,8 +8,8 @@ use Rattle.params.specs.Sizes.{size}
 use Rattle.key.specs.Testvec.{testA, testB}
 unfoldable pub use Rattle.key.specs.Bits.{bitRows}
 use Rattle.rotation.specs.Amount.{maskAmount, bodyAmount}
-use Rattle.decomposition.specs.Pair.{Pair}
 use Rattle.trgsw.specs.External.{cmuxOf}
+use Rattle.ring.specs.Pair.{Pair}
 
 -- A pair turned by k: both of its polynomials rotated, as the Rust rotates (01, trgsw: complemented, not negated).
 unfoldable pub turned : Params → ℕ → Pair → Pair

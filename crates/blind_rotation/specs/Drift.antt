@@ -10,10 +10,9 @@ use Rattle.ring.specs.Phase.{phase}
 use Rattle.params.specs.declared.Params.{Params}
 use Rattle.params.specs.Sizes.{size}
 use Rattle.rotation.specs.Amount.{maskAmount, bodyAmount}
-use Rattle.decomposition.specs.Pair.{Pair}
-use Rattle.trgsw.specs.External.{pairMinus}
 use Rattle.trgsw.specs.Errors.{digitErrors, lowPoly}
 use Rattle.blind_rotation.specs.Blind.{turned, bitRows, stepsTo, startOf}
+use Rattle.ring.specs.Pair.{Pair, pairMinus}
 
 -- W(k)·z - W(k): what complementing adds to the phase of a pair turned by k.
 unfoldable pub complementDrift : Params → List ℕ → ℕ → List ℕ

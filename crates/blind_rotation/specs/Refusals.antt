@@ -7,8 +7,8 @@ use Rattle.params.specs.declared.Params.{Params}
 use Rattle.params.specs.Refusal.{check, ifDone}
 use Rattle.params.specs.Ranges.{paramsNumber}
 use Rattle.params.specs.Sizes.{size, bootstrappingWords}
-use Rattle.decomposition.specs.Pair.{Pair}
 use Rattle.blind_rotation.specs.Blind.{blindStep, blindRotated, testPair}
+use Rattle.ring.specs.Pair.{Pair}
 
 -- 1, 2, then 3: a key of lk words, the step i, which is below n, and an accumulator of la and lb words.
 unfoldable pub stepNumber : Params → ℕ → ℕ → ℕ → ℕ → ℕ

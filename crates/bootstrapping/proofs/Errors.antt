@@ -23,11 +23,12 @@ use Rattle.params.specs.Sizes.{size, bitWords}
 use Rattle.params.proofs.Ranges.{size-from}
 use Rattle.product.proofs.Uses.{length-plus}
 use Rattle.key.proofs.Joins.{length-joined, joined-part}
-use Rattle.decomposition.specs.Digit.{weight}
-use Rattle.trgsw.specs.External.{part, rowA, rowB}
-use Rattle.trgsw.specs.Errors.{rowError}
-use Rattle.bootstrapping.specs.Rows.{maskMessage, bodyMessage, rowMask, rowBody, rowOf, rowDraw, torusRow, torusRows, bitDraws, bitDraw, keyBit, bootstrappingKey}
+use Rattle.decomposition.specs.Digit.{digitWeight}
+use Rattle.trgsw.specs.External.{rowA, rowB}
+use Rattle.trgsw.specs.Errors.{bootstrappingRowError}
+use Rattle.bootstrapping.specs.Rows.{maskMessage, bodyMessage, rowMask, rowBody, keyRow, rowDraw, torusRow, torusRows, bitDraws, bitDraw, keyBit, bootstrappingKey}
 use Rattle.bootstrapping.proofs.Parts.{fits}
+use Rattle.ring.specs.Lists.{part}
 
 -- ---- the phase of a row, less what it should carry
 
@@ -52,17 +53,17 @@ module _ (p : Params) (m r : ℕ) (z masks noise rows : List ℕ) where
   N = size p
 
   abbrev errorBy : Bool → List ℕ → List ℕ → List ℕ
-  errorBy t a b = cond t (plus N (phase N z a b) (scale N (m * weight p r) z)) (minus N (phase N z a b) (scale N (m * weight p (r - p .l)) (1 ∷ [])))
+  errorBy t a b = cond t (plus N (phase N z a b) (scale N (m * digitWeight p r) z)) (minus N (phase N z a b) (scale N (m * digitWeight p (r - p .l)) (1 ∷ [])))
 
-  pub error-of : rowA p rows r ≡ rowMask p m r masks → rowB p rows r ≡ rowBody p m r z masks noise → rowError p z rows m r ≡ scale N 1 noise
-  unfolding rowError rowMask rowBody maskMessage bodyMessage
+  pub error-of : rowA p rows r ≡ rowMask p m r masks → rowB p rows r ≡ rowBody p m r z masks noise → bootstrappingRowError p z rows m r ≡ scale N 1 noise
+  unfolding bootstrappingRowError rowMask rowBody maskMessage bodyMessage
   error-of ea eb = ap₂ (errorBy (ltb r (p .l))) ea eb ∙ go (ltb r (p .l))
     where
       go : (t : Bool)
-          → errorBy t (plus N masks (scale N (cond t (m * weight p r) 0) (1 ∷ [])))
-          (plus N (plus N noise (times N masks z)) (scale N (cond t 0 (m * weight p (r - p .l))) (1 ∷ []))) ≡ scale N 1 noise
-      go true = low N (size-from p) z masks noise (m * weight p r)
-      go false = high N (size-from p) z masks noise (m * weight p (r - p .l))
+          → errorBy t (plus N masks (scale N (cond t (m * digitWeight p r) 0) (1 ∷ [])))
+          (plus N (plus N noise (times N masks z)) (scale N (cond t 0 (m * digitWeight p (r - p .l))) (1 ∷ []))) ≡ scale N 1 noise
+      go true = low N (size-from p) z masks noise (m * digitWeight p r)
+      go false = high N (size-from p) z masks noise (m * digitWeight p (r - p .l))
 
 -- ---- the rows in the whole
 
@@ -80,7 +81,7 @@ draw-word n k l x h = getD-take n (drop k l) x 0 h ∙ getD-drop k l x 0
 
 module _ (p : Params) (m : ℕ) (z masks noise : List ℕ) where
   pub length-row : (r : ℕ) → length (torusRow p m z masks noise r) ≡ size p + size p
-  unfolding torusRow rowOf rowMask rowBody
+  unfolding torusRow keyRow rowMask rowBody
   length-row r = simp (length-append, length-plus (size p))
 
   pub length-rows : length (torusRows p m z masks noise) ≡ bitWords p
@@ -90,7 +91,7 @@ module _ (p : Params) (m : ℕ) (z masks noise : List ℕ) where
   module _ (r : ℕ) (hr : r < p .l + p .l) where
     -- row r of the rows, by halves
     row-halves : (rowA p (torusRows p m z masks noise) r ≡ rowMask p m r (rowDraw p masks r)) × (rowB p (torusRows p m z masks noise) r ≡ rowBody p m r z (rowDraw p masks r) (rowDraw p noise r))
-    unfolding rowA rowB part torusRows torusRow rowOf rowMask
+    unfolding rowA rowB part torusRows torusRow keyRow rowMask
     row-halves =
         let k = r * (size p + size p) in
         let e = halves (size p) (drop k (torusRows p m z masks noise)) (rowMask p m r (rowDraw p masks r)) (rowBody p m r z (rowDraw p masks r) (rowDraw p noise r)) (length-plus (size p) _ _)
@@ -98,7 +99,7 @@ module _ (p : Params) (m : ℕ) (z masks noise : List ℕ) where
         (e .0, ap (take (size p)) (sym (drop-drop (size p) k (torusRows p m z masks noise))) ∙ e .1)
 
     -- the error of row r of an encryption of m is its noise
-    pub error-noise : rowError p z (torusRows p m z masks noise) m r ≡ tab (size p) (λ x. at noise (r * size p + x) % Q)
+    pub error-noise : bootstrappingRowError p z (torusRows p m z masks noise) m r ≡ tab (size p) (λ x. at noise (r * size p + x) % Q)
     unfolding scale rowDraw
     error-noise =
         error-of p m r z (rowDraw p masks r) (rowDraw p noise r) (torusRows p m z masks noise) (row-halves .0) (row-halves .1)
@@ -114,10 +115,10 @@ module _ (p : Params) (key z masks noise : List ℕ) (i : ℕ) (hi : i < p .n) w
 
   -- the error of row r of bit i is its noise, drawn in row order
   pub key-error-noise : (r : ℕ) → r < p .l + p .l
-      → rowError p z (part (bitWords p) (i * bitWords p) (bootstrappingKey p key z masks noise)) (at key i) r ≡ tab (size p) (λ x. at noise (i * bitDraws p + (r * size p + x)) % Q)
+      → bootstrappingRowError p z (part (bitWords p) (i * bitWords p) (bootstrappingKey p key z masks noise)) (at key i) r ≡ tab (size p) (λ x. at noise (i * bitDraws p + (r * size p + x)) % Q)
   unfolding keyBit bitDraw
   key-error-noise r hr =
-      ap (λ (rows : List ℕ). rowError p z rows (at key i) r) bit-part
+      ap (λ (rows : List ℕ). bootstrappingRowError p z rows (at key i) r) bit-part
       ∙ error-noise p (at key i) z (bitDraw p masks i) (bitDraw p noise i) r hr
       ∙ tab-ext (size p) _ _ (λ x l.
       let f = fits r (p .l + p .l) (size p) (size p) {len = bitDraws p} hr refl refl in

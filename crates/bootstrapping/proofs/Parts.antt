@@ -23,8 +23,8 @@ use Rattle.params.proofs.Ranges.{size-from, l-to, sizes-small}
 use Rattle.product.specs.Product.{polyMulAddOut}
 use Rattle.product.proofs.Uses.{poly-mul-add-done, length-plus}
 use Rattle.key.proofs.Rows.{part-length}
-use Rattle.decomposition.specs.Digit.{weight}
-use Rattle.bootstrapping.specs.Rows.{maskMessage, bodyMessage, rowMask, rowBody, rowOf, rowDraw, torusRow, torusRows, bitDraws, bitDraw, keyBit}
+use Rattle.decomposition.specs.Digit.{digitWeight}
+use Rattle.bootstrapping.specs.Rows.{maskMessage, bodyMessage, rowMask, rowBody, keyRow, rowDraw, torusRow, torusRows, bitDraws, bitDraw, keyBit}
 
 -- ---- what is added to the first word
 
@@ -49,7 +49,7 @@ swap N h a b c = plus-assoc N h a b c ∙ ap (plus N a) (plus-comm N h b c) ∙ 
 
 module _ (p : Params) (m r : ℕ) where
   pub mask-low : r < p .l → m * 2 ^ (32 - (r + 1) * p .bgbit) % Q ≡ maskMessage p m r % Q
-  unfolding maskMessage weight
+  unfolding maskMessage digitWeight
   mask-low h = rw (lt-ltb r (p .l) h)
 
   pub mask-high : p .l ≤ r → 0 ≡ maskMessage p m r % Q
@@ -61,7 +61,7 @@ module _ (p : Params) (m r : ℕ) where
   body-low h = rw (lt-ltb r (p .l) h)
 
   pub body-high : p .l ≤ r → m * 2 ^ (32 - (r - p .l + 1) * p .bgbit) % Q ≡ bodyMessage p m r % Q
-  unfolding bodyMessage weight
+  unfolding bodyMessage digitWeight
   body-high h = rw (le-ltb r (p .l) h)
 
 -- the shift of digit i, below L, is in range
@@ -83,8 +83,8 @@ module _ (p : Params) (range : InRange p) where
   -- the row, the words added being those of its number
   pub row-made : (m r : ℕ) (key masks noise : List ℕ) {x y : ℕ} {out : List ℕ} → x ≡ maskMessage p m r % Q → y ≡ bodyMessage p m r % Q
       → out ≡ plus (size p) masks (x ∷ []) ++ plus (size p) (plus (size p) noise (y ∷ [])) (times (size p) masks key)
-      → out ≡ rowOf p m r key masks noise
-  unfolding rowOf rowMask rowBody
+      → out ≡ keyRow p m r key masks noise
+  unfolding keyRow rowMask rowBody
   row-made m r key masks noise ex ey e =
       e ∙ ap₂ (λ (a b : List ℕ). a ++ b)
       (ap (λ (x : ℕ). plus (size p) masks (x ∷ [])) ex ∙ constant (size p) masks (maskMessage p m r))
@@ -128,9 +128,9 @@ part-is l i w v e = ap (λ (k : ℕ). take k (drop (i * w) l)) (add-sub-cancel-l
 module _ (p : Params) (z masks noise : List ℕ) where
   -- row r, its draws being lent as parts
   pub row-drawn : (m r n : ℕ) → n ≡ size p → {out : List ℕ}
-      → out ≡ rowOf p m r z (take (r * n + n - r * n) (drop (r * n) masks)) (take (r * n + n - r * n) (drop (r * n) noise)) → out ≡ torusRow p m z masks noise r
+      → out ≡ keyRow p m r z (take (r * n + n - r * n) (drop (r * n) masks)) (take (r * n + n - r * n) (drop (r * n) noise)) → out ≡ torusRow p m z masks noise r
   unfolding torusRow rowDraw
-  row-drawn m r n e f = f ∙ ap₂ (λ (a b : List ℕ). rowOf p m r z a b) (part-is masks r n (size p) e) (part-is noise r n (size p) e)
+  row-drawn m r n e f = f ∙ ap₂ (λ (a b : List ℕ). keyRow p m r z a b) (part-is masks r n (size p) e) (part-is noise r n (size p) e)
 
   -- bit i
   pub bit-drawn : (key : List ℕ) (i w : ℕ) → w ≡ bitDraws p → {out : List ℕ}

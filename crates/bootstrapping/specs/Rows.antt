@@ -9,16 +9,16 @@ use Rattle.ring.specs.Word.{at}
 use Rattle.ring.specs.Poly.{plus, times, scale}
 use Rattle.params.specs.declared.Params.{Params}
 use Rattle.params.specs.Sizes.{size}
-use Rattle.key.specs.Generation.{joined}
-use Rattle.decomposition.specs.Digit.{weight}
+use Rattle.decomposition.specs.Digit.{digitWeight}
+use Rattle.ring.specs.Lists.{joined}
 
 -- What row r of an encryption of the word m has added to a[0]: m·g_r for r below L, nothing from L on.
 unfoldable pub maskMessage : Params → ℕ → ℕ → ℕ
-maskMessage p m r = cond (ltb r (p .l)) (m * weight p r) 0
+maskMessage p m r = cond (ltb r (p .l)) (m * digitWeight p r) 0
 
 -- What it has added to b[0]: nothing for r below L, m·g_i for row L + i.
 unfoldable pub bodyMessage : Params → ℕ → ℕ → ℕ
-bodyMessage p m r = cond (ltb r (p .l)) 0 (m * weight p (r - p .l))
+bodyMessage p m r = cond (ltb r (p .l)) 0 (m * digitWeight p (r - p .l))
 
 -- The a of row r, which drew these masks: the masks with m·g_r added to the first, as the constant polynomial.
 unfoldable pub rowMask : Params → ℕ → ℕ → List ℕ → List ℕ
@@ -29,8 +29,8 @@ unfoldable pub rowBody : Params → ℕ → ℕ → List ℕ → List ℕ → Li
 rowBody p m r z masks noise = plus (size p) (plus (size p) noise (times (size p) masks z)) (scale (size p) (bodyMessage p m r) (1 ∷ []))
 
 -- The row: 2N words, a then b.
-unfoldable pub rowOf : Params → ℕ → ℕ → List ℕ → List ℕ → List ℕ → List ℕ
-rowOf p m r z masks noise = rowMask p m r masks ++ rowBody p m r z masks noise
+unfoldable pub keyRow : Params → ℕ → ℕ → List ℕ → List ℕ → List ℕ → List ℕ
+keyRow p m r z masks noise = rowMask p m r masks ++ rowBody p m r z masks noise
 
 -- The N words that row r draws from one bit's masks, or from its noise: they are used in row order.
 unfoldable pub rowDraw : Params → List ℕ → ℕ → List ℕ
@@ -38,7 +38,7 @@ rowDraw p words r = take (size p) (drop (r * size p) words)
 
 -- Row r of an encryption of m, from the masks and the noise of all its rows.
 unfoldable pub torusRow : Params → ℕ → List ℕ → List ℕ → List ℕ → ℕ → List ℕ
-torusRow p m z masks noise r = rowOf p m r z (rowDraw p masks r) (rowDraw p noise r)
+torusRow p m z masks noise r = keyRow p m r z (rowDraw p masks r) (rowDraw p noise r)
 
 -- `encrypt_torus`: the 2L rows of an encryption of the word m, one after another.
 unfoldable pub torusRows : Params → ℕ → List ℕ → List ℕ → List ℕ → List ℕ

@@ -7,7 +7,7 @@ ghost use Rattle.ring.specs.Word.{Q};
 ghost use Rattle.ring.specs.Poly.{plus, times};
 ghost use Rattle.params.specs.Ranges.{InRange};
 ghost use Rattle.params.specs.Sizes.{size, bitWords, bootstrappingWords};
-ghost use Rattle.bootstrapping.specs.Rows.{maskMessage, bodyMessage, rowOf, torusRows, bitDraws, bootstrappingKey};
+ghost use Rattle.bootstrapping.specs.Rows.{maskMessage, bodyMessage, keyRow, torusRows, bitDraws, bootstrappingKey};
 use params::Params;
 
 // The words of source, c added to the first of them.
@@ -86,7 +86,7 @@ fn halves_into(
 // Row r, from its own masks and noise.
 fn row_into(p: Params, m: u32, r: u32, masks: &[u32], noise: &[u32], key: &[u32], out: &mut [u32])
     requires { ⌜ InRange p × (r < p .l + p .l) × (length (now masks) ≡ size p) × (length (now noise) ≡ size p) × (length (now key) ≡ size p) × (length (now out) ≡ size p + size p) ⌝ }
-    ensures { λ _. ⌜ now (out .exit) ≡ rowOf p m r (now (key .entry)) (now (masks .entry)) (now (noise .entry)) ⌝ }
+    ensures { λ _. ⌜ now (out .exit) ≡ keyRow p m r (now (key .entry)) (now (masks .entry)) (now (noise .entry)) ⌝ }
 {
     let x = mask_message(p, m, r);
     let y = body_message(p, m, r);

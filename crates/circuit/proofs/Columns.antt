@@ -1,26 +1,26 @@
 -- The tables of src/kinds.rt are the columns of the table of kinds: each is tested whole.
 -- Assumes nothing.
 use mathlib.Core.Path.{_≡_, refl, sym, ap, _∙_}
-use mathlib.Core.Bool.{Bool, true, false, not}
+use mathlib.Core.Bool.{Bool, true, false, not, xor, cond}
 use mathlib.Core.List.{List, [], _∷_}
 use Prim.Native.Nat.{ℕ, zero, suc, _+_, _*_, _/_, _%_, _^_, _≤_, _<_}
 use native.Mathlib.Omega.{arith}
 use lib.Dec.{leb, ltb, eqb, eqb→eq, leb→le, lit≤, lit<}
 use lib.ListN.{length, getD, List·getD-eq-default}
 use mir.Val.{boolByte}
-use Rattle.params.specs.Refusal.{pick}
-use Rattle.circuit.specs.Kinds.{Kind, kinds, kindOf, row}
-use Rattle.circuit.specs.Plain.{truth, bit, meaningOf}
+use Rattle.circuit.specs.Kinds.{Entry, kinds, kindOf, kindEntry}
+use Rattle.circuit.specs.Plain.{bitMeaning}
 use Rattle.circuit.proofs.Table.{both, both-left, both-right, every, entry}
+use Rattle.ring.specs.Bit.{truth, bitNumber}
 
 -- ---- past the table
 
-pub kind-past : (k : ℕ) → 13 < k → kindOf k ≡ row 0 (λ a b c. false) 0
+pub kind-past : (k : ℕ) → 13 < k → kindOf k ≡ kindEntry 0 (λ a b c. false) 0
 unfolding kindOf kinds
-kind-past k h = List·getD-eq-default kinds (row 0 (λ a b c. false) 0) h
+kind-past k h = List·getD-eq-default kinds (kindEntry 0 (λ a b c. false) 0) h
 
-pub meaning-past : (k a b c : ℕ) → 13 < k → 0 ≡ meaningOf k a b c
-unfolding meaningOf
+pub meaning-past : (k a b c : ℕ) → 13 < k → 0 ≡ bitMeaning k a b c
+unfolding bitMeaning
 meaning-past k a b c h = rw (kind-past k h)
 
 -- ---- the column of operands
@@ -40,12 +40,12 @@ operand-entry k h =
 
 -- the same by comparisons
 byComparing : ℕ → ℕ
-byComparing k = pick (ltb k 2) 0 (pick (ltb k 3) 1 (pick (ltb k 13) 2 3))
+byComparing k = cond (ltb k 2) 0 (cond (ltb k 3) 1 (cond (ltb k 13) 2 3))
 
 compared-right : ℕ → ℕ → Bool
 compared-right k x = eqb x (byComparing k)
 
-pub operands-compared : (k : ℕ) → k ≤ 13 → kindOf k .operands ≡ pick (ltb k 2) 0 (pick (ltb k 3) 1 (pick (ltb k 13) 2 3))
+pub operands-compared : (k : ℕ) → k ≤ 13 → kindOf k .operands ≡ cond (ltb k 2) 0 (cond (ltb k 3) 1 (cond (ltb k 13) 2 3))
 unfolding compared-right byComparing
 operands-compared k h = sym (operand-entry k h .0) ∙ eqb→eq (getD operandTable k 0) (byComparing k) (entry compared-right operandTable tt k (omega arith))
 
@@ -87,17 +87,17 @@ eight-bit x (suc (suc (suc (suc (suc (suc (suc (suc i)))))))) h = absurd (let q 
 
 -- bit i of kind k's byte is its meaning on the bits of i
 bit-right : ℕ → ℕ → ℕ → Bool
-bit-right k i y = eqb y (meaningOf k (i % 2) (i / 2 % 2) (i / 4 % 2))
+bit-right k i y = eqb y (bitMeaning k (i % 2) (i / 2 % 2) (i / 4 % 2))
 
 truth-right : ℕ → ℕ → Bool
 truth-right k x = every (bit-right k) 0 (eight x)
 
-truth-entry : (k i : ℕ) → k ≤ 13 → i < 8 → getD truthTable k 0 / 2 ^ i % 2 ≡ meaningOf k (i % 2) (i / 2 % 2) (i / 4 % 2)
-unfolding truth-right bit-right eight meaningOf kindOf kinds
+truth-entry : (k i : ℕ) → k ≤ 13 → i < 8 → getD truthTable k 0 / 2 ^ i % 2 ≡ bitMeaning k (i % 2) (i / 2 % 2) (i / 4 % 2)
+unfolding truth-right bit-right eight bitMeaning kindOf kinds xor
 truth-entry k i h l =
     let x = getD truthTable k 0 in
     let t = entry truth-right truthTable tt k (omega arith) in
-    sym (eight-bit x i l) ∙ eqb→eq (getD (eight x) i 0) (meaningOf k (i % 2) (i / 2 % 2) (i / 4 % 2)) (entry (bit-right k) (eight x) t i l)
+    sym (eight-bit x i l) ∙ eqb→eq (getD (eight x) i 0) (bitMeaning k (i % 2) (i / 2 % 2) (i / 4 % 2)) (entry (bit-right k) (eight x) t i l)
 
 -- a bit as the machine makes it from a test
 pub byte-small : (b : Bool) → boolByte b ≤ 1
@@ -108,19 +108,19 @@ truth-byte : (b : Bool) → truth (boolByte b) ≡ b
 truth-byte true = refl
 truth-byte false = refl
 
-pub bit-byte : (b : Bool) → boolByte b ≡ bit b
+pub bit-byte : (b : Bool) → boolByte b ≡ bitNumber b
 bit-byte true = refl
 bit-byte false = refl
 
-meaning-byte : (k a b c : ℕ) → meaningOf k (boolByte (truth a)) (boolByte (truth b)) (boolByte (truth c)) ≡ meaningOf k a b c
-unfolding meaningOf
+meaning-byte : (k a b c : ℕ) → bitMeaning k (boolByte (truth a)) (boolByte (truth b)) (boolByte (truth c)) ≡ bitMeaning k a b c
+unfolding bitMeaning
 meaning-byte k a b c = rw (truth-byte (truth a), truth-byte (truth b), truth-byte (truth c))
 
 -- the bit that is looked up
 abbrev pub place : ℕ → ℕ → ℕ → ℕ
 place x y z = x + 2 * y + 4 * z
 
-spread : (k x y z : ℕ) → x ≤ 1 → y ≤ 1 → z ≤ 1 → meaningOf k (place x y z % 2) (place x y z / 2 % 2) (place x y z / 4 % 2) ≡ meaningOf k x y z
+spread : (k x y z : ℕ) → x ≤ 1 → y ≤ 1 → z ≤ 1 → bitMeaning k (place x y z % 2) (place x y z / 2 % 2) (place x y z / 4 % 2) ≡ bitMeaning k x y z
 spread k x y z hx hy hz =
     let f2 : place x y z / 2 ≡ y + 2 * z = omega arith in
     let f3 : place x y z / 4 ≡ z = omega arith in
@@ -129,7 +129,7 @@ spread k x y z hx hy hz =
     let e3 : place x y z / 4 % 2 ≡ z = rw f3 (omega arith) in
     cc
 
-pub meaning-entry : (k a b c : ℕ) → k ≤ 13 → getD truthTable k 0 / 2 ^ place (boolByte (truth a)) (boolByte (truth b)) (boolByte (truth c)) % 2 ≡ meaningOf k a b c
+pub meaning-entry : (k a b c : ℕ) → k ≤ 13 → getD truthTable k 0 / 2 ^ place (boolByte (truth a)) (boolByte (truth b)) (boolByte (truth c)) % 2 ≡ bitMeaning k a b c
 meaning-entry k a b c h =
     let ha = byte-small (truth a) in
     let hb = byte-small (truth b) in

@@ -7,7 +7,7 @@ use Rattle.ring.specs.Sums.{sumTo, tab}
 use Rattle.params.specs.Refusal.{answer}
 use Rattle.circuit.specs.Kinds.{kinds, kindOf}
 use Rattle.circuit.specs.Form.{fieldAt, first, countsAnswer, headAnswer, operandGood, operandsAnswer, gateAnswer, outputAnswer, answerOf, refusal}
-use Rattle.circuit.specs.Plain.{meaningOf, wiresTo, outputBits, workOf}
+use Rattle.circuit.specs.Plain.{bitMeaning, wiresTo, outputBits, workOf}
 
 -- 01's bytes, with some of them to be chosen: the last byte of the mark, the version, the inputs, the outputs, the gate's kind, its zero byte,
 -- its operands, the output's wire
@@ -23,7 +23,7 @@ unfolding circuit workOf fieldAt sumTo kindOf kinds
 work-one = refl
 
 table : (outputBits (circuit 76 1 2 1 5 0 0 1 0 2) (0 ∷ 0 ∷ []) ≡ 1 ∷ []) × (outputBits (circuit 76 1 2 1 5 0 0 1 0 2) (1 ∷ 0 ∷ []) ≡ 1 ∷ []) × (outputBits (circuit 76 1 2 1 5 0 0 1 0 2) (0 ∷ 9 ∷ []) ≡ 1 ∷ []) × (outputBits (circuit 76 1 2 1 5 0 0 1 0 2) (7 ∷ 1 ∷ []) ≡ 0 ∷ [])
-unfolding circuit fieldAt tab wiresTo meaningOf kindOf kinds
+unfolding circuit fieldAt tab wiresTo bitMeaning kindOf kinds
 table = (refl, refl, refl, refl)
 
 short : answerOf [] ≡ refusal 8 0

@@ -2,14 +2,14 @@
 -- table, and an operand that is not needed is below 1.
 -- Assumes nothing.
 use mathlib.Core.Path.{_≡_, refl, sym, ap, ap₂, _∙_}
-use mathlib.Core.Bool.{Bool, true, false}
+use mathlib.Core.Bool.{Bool, true, false, cond}
 use mathlib.Core.List.{List}
 use Prim.Native.Nat.{ℕ, zero, suc, _+_, _*_, _≤_}
 use native.Mathlib.Omega.{arith}
 use borrow.Author.Tests.{le-ltb, ne-eqb}
 use lib.Dec.{ltb, eqb, T}
 use lib.ListN.{getD}
-use Rattle.params.specs.Refusal.{pick, answer}
+use Rattle.params.specs.Refusal.{answer}
 use Rattle.circuit.specs.Kinds.{kindOf}
 use Rattle.circuit.specs.Form.{fieldAt, inputs, gatePlace, kindAt, operandAt, checkAt, operandGood}
 use Rattle.circuit.proofs.Table.{same, same-is, entry}
@@ -44,20 +44,20 @@ below-one : (wire : ℕ) → eqb wire 0 ≡ ltb wire 1
 below-one zero = refl
 below-one (suc n) = ne-eqb (suc n) 0 (λ e. let q : ⊥ = omega arith in q) ∙ sym (le-ltb (suc n) 1 (omega arith))
 
-below : (b : Bool) (own wire : ℕ) → pick b (ltb wire own) (eqb wire 0) ≡ ltb wire (pick b own 1)
+below : (b : Bool) (own wire : ℕ) → cond b (ltb wire own) (eqb wire 0) ≡ ltb wire (cond b own 1)
 below true own wire = refl
 below false own wire = below-one wire
 
 -- operand x of gate g, needed by the kinds above t, from what was read of it
 pub operand-fits : (bs : List ℕ) (g x t i : ℕ) {kind own wire bound : ℕ} → kind ≡ kindAt bs g → ltb x (kindOf (kindAt bs g) .operands) ≡ ltb t (kindAt bs g) → own ≡ inputs bs + g
-    → i ≡ gatePlace g + 2 + 2 * x → wire ≡ fieldAt bs i → bound ≡ pick (ltb t kind) own 1 → operandGood bs g x ≡ ltb wire bound
+    → i ≡ gatePlace g + 2 + 2 * x → wire ≡ fieldAt bs i → bound ≡ cond (ltb t kind) own 1 → operandGood bs g x ≡ ltb wire bound
 unfolding operandGood
 operand-fits bs g x t i {kind} {own} {wire} {bound} ek en eo ei ew eb =
     let o = inputs bs + g in
     let w = operandAt bs g x in
-    ap (λ (b : Bool). pick b (ltb w o) (eqb w 0)) en
+    ap (λ (b : Bool). cond b (ltb w o) (eqb w 0)) en
     ∙ below (ltb t (kindAt bs g)) o w
-    ∙ sym (ap₂ ltb (ew ∙ ap (fieldAt bs) ei) (eb ∙ ap₂ (λ (k n : ℕ). pick (ltb t k) n 1) ek eo))
+    ∙ sym (ap₂ ltb (ew ∙ ap (fieldAt bs) ei) (eb ∙ ap₂ (λ (k n : ℕ). cond (ltb t k) n 1) ek eo))
 
 -- the last check of a chain
 pub last-check : (b : Bool) (place : ℕ) → b ≡ eqb (checkAt b 9 place (answer 0) .number) 0

@@ -19,11 +19,12 @@ use Rattle.params.proofs.Answers.{when-done}
 use Rattle.circuit.specs.Kinds.{kinds, kindOf}
 use Rattle.circuit.specs.Form.{inputs, gates, outputs, wires, kindAt, operandAt, outputAt}
 use Rattle.circuit.specs.Valid.{GoodGate, Valid}
-use Rattle.circuit.specs.Plain.{truth, bit, meaningOf, gateBit, wiresTo, wiresOf, inputBits, outputBits, workOf, runOut}
+use Rattle.circuit.specs.Plain.{bitMeaning, gateBit, wiresTo, wiresOf, inputBits, outputBits, workOf, runOut}
 use Rattle.circuit.proofs.Table.{entry}
 use Rattle.circuit.proofs.Columns.{operandTable, operand-entry, work-entry}
 use Rattle.circuit.proofs.Accept.{RunGood, run-done, lt-or-ge}
 use Rattle.circuit.proofs.Wires.{length-wires, wires-kept, wires-own}
+use Rattle.ring.specs.Bit.{truth, bitNumber}
 
 -- ---- a kind that needs no operand
 
@@ -39,8 +40,8 @@ needs-one k h =
     let t = leb→le 1 (getD operandTable (suc (suc k)) 0) (entry needs-one-right operandTable tt (suc (suc k)) (omega arith)) in
     omega arith
 
-constant : (k a b c a′ b′ c′ : ℕ) → k ≤ 13 → kindOf k .operands ≡ 0 → meaningOf k a b c ≡ meaningOf k a′ b′ c′
-unfolding meaningOf kindOf kinds
+constant : (k a b c a′ b′ c′ : ℕ) → k ≤ 13 → kindOf k .operands ≡ 0 → bitMeaning k a b c ≡ bitMeaning k a′ b′ c′
+unfolding bitMeaning kindOf kinds
 constant zero a b c a′ b′ c′ h e = refl
 constant (suc zero) a b c a′ b′ c′ h e = refl
 constant (suc (suc k)) a b c a′ b′ c′ h e = absurd (let n = needs-one k h in let q : ⊥ = omega arith in q)
@@ -49,10 +50,10 @@ constant (suc (suc k)) a b c a′ b′ c′ h e = absurd (let n = needs-one k h 
 
 module _ (bs ins : List ℕ) where
   pub wires-count : length (wiresOf bs ins) ≡ wires bs
-  wires-count = length-wires bs (inputBits bs ins) (gates bs) ∙ ap (λ (k : ℕ). k + gates bs) (length-tab (inputs bs) (λ i. bit (truth (at ins i))))
+  wires-count = length-wires bs (inputBits bs ins) (gates bs) ∙ ap (λ (k : ℕ). k + gates bs) (length-tab (inputs bs) (λ i. bitNumber (truth (at ins i))))
 
   input-count : length (inputBits bs ins) ≡ inputs bs
-  input-count = length-tab (inputs bs) (λ i. bit (truth (at ins i)))
+  input-count = length-tab (inputs bs) (λ i. bitNumber (truth (at ins i)))
 
   -- what stands after g gates stands at the end
   kept-to : (g w : ℕ) → g ≤ gates bs → w < inputs bs + g → at (wiresOf bs ins) w ≡ at (wiresTo bs (inputBits bs ins) g) w
@@ -62,9 +63,9 @@ module _ (bs ins : List ℕ) where
       ap (λ (m : ℕ). at (wiresTo bs (inputBits bs ins) m) w) e ∙ wires-kept bs (inputBits bs ins) g (gates bs - g) w (omega arith)
 
   -- an input's wire has the lent bit
-  pub input-wire : (i : ℕ) → i < inputs bs → at (wiresOf bs ins) i ≡ bit (truth (at ins i))
+  pub input-wire : (i : ℕ) → i < inputs bs → at (wiresOf bs ins) i ≡ bitNumber (truth (at ins i))
   unfolding wiresTo
-  input-wire i h = kept-to 0 i (omega arith) (omega arith) ∙ at-tab (inputs bs) (λ j. bit (truth (at ins j))) i h
+  input-wire i h = kept-to 0 i (omega arith) (omega arith) ∙ at-tab (inputs bs) (λ j. bitNumber (truth (at ins j))) i h
 
   -- a circuit of no gates has the inputs' wires alone
   pub no-gates : gates bs ≡ 0 → wiresOf bs ins ≡ inputBits bs ins

@@ -13,7 +13,8 @@ use Rattle.ring.specs.Word.{at}
 use Rattle.ring.specs.Sums.{sumTo, tab}
 use Rattle.ring.proofs.Tab.{length-tab}
 use Rattle.circuit.specs.Form.{inputs, gates, wires}
-use Rattle.circuit.specs.Plain.{truth, bit, gateBit, wiresTo, wiresOf, inputBits}
+use Rattle.circuit.specs.Plain.{gateBit, wiresTo, wiresOf, inputBits}
+use Rattle.ring.specs.Bit.{truth, bitNumber}
 
 pub length-wires : (bs start : List ℕ) (g : ℕ) → length (wiresTo bs start g) ≡ length start + g
 unfolding wiresTo
@@ -83,10 +84,10 @@ wires-own bs start g d =
 
 -- ---- the whole run: the inputs' bits written over w, then the gates'
 
-pub run-bits : (bs ins w bits bits′ : List ℕ) → length ins ≡ inputs bs → bits ≡ tab (length ins) (λ i. bit (truth (at ins i))) ++ drop (length ins) w → bits′ ≡ wiresTo bs (take (inputs bs) bits) (gates bs) ++ drop (wires bs) bits → take (wires bs) bits′ ≡ wiresOf bs ins
+pub run-bits : (bs ins w bits bits′ : List ℕ) → length ins ≡ inputs bs → bits ≡ tab (length ins) (λ i. bitNumber (truth (at ins i))) ++ drop (length ins) w → bits′ ≡ wiresTo bs (take (inputs bs) bits) (gates bs) ++ drop (wires bs) bits → take (wires bs) bits′ ≡ wiresOf bs ins
 run-bits bs ins w bits bits′ l e d =
     let n = inputs bs in
-    let f : ℕ → ℕ = λ i. bit (truth (at ins i)) in
+    let f : ℕ → ℕ = λ i. bitNumber (truth (at ins i)) in
     let t : take n bits ≡ inputBits bs ins = ap (take n) (e ∙ ap (λ (k : ℕ). tab k f ++ drop k w) l) ∙ take-at (tab n f) (drop n w) n (length-tab n f) in
     ap (take (wires bs)) (d ∙ ap (λ (s : List ℕ). wiresTo bs s (gates bs) ++ drop (wires bs) bits) t)
     ∙ take-at (wiresOf bs ins) (drop (wires bs) bits) (wires bs) (length-wires bs (inputBits bs ins) (gates bs) ∙ ap (λ (k : ℕ). k + gates bs) (length-tab n f))

@@ -1,12 +1,12 @@
 -- The circuit form (01, 'Circuits'; docs/DECISIONS.md, Readings): the fields of a circuit's bytes, and the answer that reading them gives.
-use mathlib.Core.Bool.{Bool}
+use mathlib.Core.Bool.{Bool, cond}
 use mathlib.Core.List.{List}
 use Prim.Native.Nat.{ℕ, zero, suc, _+_, _*_}
 use lib.Dec.{leb, ltb, eqb}
 use lib.ListN.{length}
 use Rattle.ring.specs.Word.{at}
 use Rattle.params.specs.declared.Answer.{Answer}
-use Rattle.params.specs.Refusal.{answer, pick, ifDone}
+use Rattle.params.specs.Refusal.{answer, ifDone}
 use Rattle.circuit.specs.declared.Shape.{Shape}
 use Rattle.circuit.specs.Kinds.{kindOf, lastKind}
 
@@ -74,7 +74,7 @@ orElse a b = ifDone (a .number) b a
 
 -- One check: the refusal where the test fails, else what the checks after it give.
 abbrev pub checkAt : Bool → ℕ → ℕ → Answer → Answer
-checkAt test n p rest = pick test rest (refusal n p)
+checkAt test n p rest = cond test rest (refusal n p)
 
 -- The first refusal among f i, f (i + 1), .. of so many answers; done where none refuses.
 unfoldable pub first : (ℕ → Answer) → ℕ → ℕ → Answer
@@ -103,7 +103,7 @@ headAnswer bs =
 
 -- Operand x of gate g: one that its kind needs is below its own wire, which is inputs + g; another is 0.
 unfoldable pub operandGood : List ℕ → ℕ → ℕ → Bool
-operandGood bs g x = pick (ltb x (kindOf (kindAt bs g) .operands)) (ltb (operandAt bs g x) (inputs bs + g)) (eqb (operandAt bs g x) 0)
+operandGood bs g x = cond (ltb x (kindOf (kindAt bs g) .operands)) (ltb (operandAt bs g x) (inputs bs + g)) (eqb (operandAt bs g x) 0)
 
 -- The operands of gate g, in order.
 unfoldable pub operandsAnswer : List ℕ → ℕ → Answer

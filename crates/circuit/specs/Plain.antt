@@ -1,5 +1,5 @@
 -- The plain meaning of a circuit and its work (01, 'Circuits').
-use mathlib.Core.Bool.{Bool, true, false, not}
+use mathlib.Core.Bool.{Bool, true, false, not, cond}
 use mathlib.Core.List.{List, [], _∷_, _++_}
 use Prim.Native.Nat.{ℕ, zero, suc, _+_}
 use lib.Dec.{eqb}
@@ -7,26 +7,19 @@ use lib.ListN.{length}
 use Rattle.ring.specs.Word.{at}
 use Rattle.ring.specs.Sums.{sumTo, tab}
 use Rattle.params.specs.declared.Answer.{Answer}
-use Rattle.params.specs.Refusal.{pick, ifDone, check, answer}
+use Rattle.params.specs.Refusal.{ifDone, check, answer}
 use Rattle.circuit.specs.declared.Worked.{Worked}
 use Rattle.circuit.specs.Kinds.{kindOf}
 use Rattle.circuit.specs.Form.{inputs, gates, outputs, kindAt, operandAt, outputAt, answerOf, orElse}
-
--- A lent plain bit is a byte: 0 is false, any other true.
-abbrev pub truth : ℕ → Bool
-truth n = not (eqb n 0)
-
--- A bit that is handed back: 1 for true, 0 for false.
-abbrev pub bit : Bool → ℕ
-bit b = pick b 1 0
+use Rattle.ring.specs.Bit.{bitNumber, truth}
 
 -- A kind's meaning on bits in bytes.
-unfoldable pub meaningOf : ℕ → ℕ → ℕ → ℕ → ℕ
-meaningOf k a b c = bit (kindOf k .meaning (truth a) (truth b) (truth c))
+unfoldable pub bitMeaning : ℕ → ℕ → ℕ → ℕ → ℕ
+bitMeaning k a b c = bitNumber (kindOf k .meaning (truth a) (truth b) (truth c))
 
 -- Gate g's bit, the bits of the wires before it being ws.
 abbrev pub gateBit : List ℕ → List ℕ → ℕ → ℕ
-gateBit bs ws g = meaningOf (kindAt bs g) (at ws (operandAt bs g 0)) (at ws (operandAt bs g 1)) (at ws (operandAt bs g 2))
+gateBit bs ws g = bitMeaning (kindAt bs g) (at ws (operandAt bs g 0)) (at ws (operandAt bs g 1)) (at ws (operandAt bs g 2))
 
 -- The wires' bits after g gates, the first wires' being given: each gate adds its own.
 unfoldable pub wiresTo : List ℕ → List ℕ → ℕ → List ℕ
@@ -35,7 +28,7 @@ wiresTo bs start (suc g) = wiresTo bs start g ++ (gateBit bs (wiresTo bs start g
 
 -- The inputs' bits.
 abbrev pub inputBits : List ℕ → List ℕ → List ℕ
-inputBits bs ins = tab (inputs bs) (λ i. bit (truth (at ins i)))
+inputBits bs ins = tab (inputs bs) (λ i. bitNumber (truth (at ins i)))
 
 -- Every wire's bit, in wire order.
 abbrev pub wiresOf : List ℕ → List ℕ → List ℕ

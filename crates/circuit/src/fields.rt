@@ -5,8 +5,8 @@ ghost use Prim.Native.Nat.{_+_, _<_};
 ghost use lib.Dec.{ltb};
 ghost use lib.ListN.{length};
 ghost use Rattle.ring.specs.Word.{at};
-ghost use Rattle.params.specs.Refusal.{pick};
 ghost use Rattle.circuit.specs.Form.{fieldAt, gates, outputs, kindAt, operandAt, outputAt, countsOf};
+ghost use mathlib.Core.Bool.{cond};
 
 fn wide(x: u8) -> usize
     ensures { λ r. ⌜ r ≡ x ⌝ }
@@ -74,7 +74,7 @@ pub fn counts(bytes: &[u8]) -> Shape
 
 // The number of gate g's kind; 0 where there is no gate g.
 pub fn kind_at(bytes: &[u8], g: usize) -> usize
-    ensures { λ r. ⌜ r ≡ pick (ltb g (gates (now (bytes .entry)))) (kindAt (now (bytes .entry)) g) 0 ⌝ }
+    ensures { λ r. ⌜ r ≡ cond (ltb g (gates (now (bytes .entry)))) (kindAt (now (bytes .entry)) g) 0 ⌝ }
 {
     if g < field(bytes, 7) {
         return byte(bytes, 11 + 8 * g);
@@ -84,7 +84,7 @@ pub fn kind_at(bytes: &[u8], g: usize) -> usize
 
 // Operand x of gate g; 0 where there is no gate g or no operand x.
 pub fn operand_at(bytes: &[u8], g: usize, x: usize) -> usize
-    ensures { λ r. ⌜ r ≡ pick (ltb g (gates (now (bytes .entry)))) (pick (ltb x 3) (operandAt (now (bytes .entry)) g x) 0) 0 ⌝ }
+    ensures { λ r. ⌜ r ≡ cond (ltb g (gates (now (bytes .entry)))) (cond (ltb x 3) (operandAt (now (bytes .entry)) g x) 0) 0 ⌝ }
 {
     if g < field(bytes, 7) {
         if x < 3 {
@@ -97,7 +97,7 @@ pub fn operand_at(bytes: &[u8], g: usize, x: usize) -> usize
 
 // The wire of output o; 0 where there is no output o.
 pub fn output_at(bytes: &[u8], o: usize) -> usize
-    ensures { λ r. ⌜ r ≡ pick (ltb o (outputs (now (bytes .entry)))) (outputAt (now (bytes .entry)) o) 0 ⌝ }
+    ensures { λ r. ⌜ r ≡ cond (ltb o (outputs (now (bytes .entry)))) (outputAt (now (bytes .entry)) o) 0 ⌝ }
 {
     if o < field(bytes, 9) {
         return field(bytes, 11 + 8 * field(bytes, 7) + 2 * o);

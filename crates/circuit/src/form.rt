@@ -8,10 +8,10 @@ ghost use mathlib.Core.Path.{_≡_};
 ghost use Prim.Native.Nat.{_+_, _*_, _≤_, _<_};
 ghost use lib.Dec.{ltb, eqb};
 ghost use lib.ListN.{length};
-ghost use Rattle.params.specs.Refusal.{pick};
 ghost use Rattle.circuit.specs.Form.{inputs, gates, outputs, kindAt, countsAnswer, headAnswer};
 ghost use Rattle.circuit.specs.Form.{operandsAnswer, gateAnswer, outputAnswer, first, answerOf};
 ghost use Rattle.circuit.specs.Valid.{Head};
+ghost use mathlib.Core.Bool.{cond};
 
 // The counts in order, then the length.
 fn counts(bytes: &[u8]) -> Answer
@@ -97,7 +97,7 @@ fn head(bytes: &[u8]) -> Answer
 
 // Operand x of a gate, being this wire: one that the kind needs is below the gate's own wire, another is 0.
 fn operand_good(needed: usize, own: usize, x: usize, wire: usize) -> bool
-    ensures { λ r. ⌜ r ≡ pick (ltb x needed) (ltb wire own) (eqb wire 0) ⌝ }
+    ensures { λ r. ⌜ r ≡ cond (ltb x needed) (ltb wire own) (eqb wire 0) ⌝ }
 {
     if x < needed {
         return wire < own;
@@ -160,7 +160,7 @@ fn gate(bytes: &[u8], g: usize, own: usize) -> Answer
 
 // What an operand has to be below: the gate's own wire where its kind needs it, else 1.
 fn operand_bound(needed: bool, own: usize) -> usize
-    ensures { λ r. ⌜ r ≡ pick needed own 1 ⌝ }
+    ensures { λ r. ⌜ r ≡ cond needed own 1 ⌝ }
 {
     if needed { own } else { 1 }
 }

@@ -2,7 +2,7 @@
 ghost use mathlib.Core.Path.{_≡_};
 ghost use Prim.Native.Nat.{_^_, _≤_};
 ghost use Rattle.circuit.specs.Kinds.{kindOf};
-ghost use Rattle.circuit.specs.Plain.{meaningOf};
+ghost use Rattle.circuit.specs.Plain.{bitMeaning};
 
 // The work of each kind.
 const WORK: [u8; 14] = [0, 0, 0, 1, 1, 1, 1, 1, 1, 1, 1, 1, 1, 1];
@@ -65,7 +65,7 @@ fn power(i: u32) -> u8
 
 // The bit of a gate of this kind on the bits of its operands.
 pub(crate) fn meaning(kind: usize, a: u8, b: u8, c: u8) -> u8
-    ensures { λ r. ⌜ r ≡ meaningOf kind a b c ⌝ }
+    ensures { λ r. ⌜ r ≡ bitMeaning kind a b c ⌝ }
 {
     if 13 < kind {
         return 0;

@@ -11,7 +11,8 @@ ghost use lib.ListN.{length, take, drop, set};
 ghost use Rattle.ring.specs.Word.{at};
 ghost use Rattle.ring.specs.Sums.{tab};
 ghost use Rattle.circuit.specs.Form.{inputs, gates, outputs, wires, outputAt};
-ghost use Rattle.circuit.specs.Plain.{truth, bit, gateBit, wiresTo, outputBits, runAnswer, runOut};
+ghost use Rattle.circuit.specs.Plain.{gateBit, wiresTo, outputBits, runAnswer, runOut};
+ghost use Rattle.ring.specs.Bit.{truth, bitNumber};
 
 // The bit of wire w among the first of the wires; 0 for any other.
 fn wire(bits: &[u8], first: usize, w: usize) -> u8
@@ -39,7 +40,7 @@ fn gate_bit(bytes: &[u8], g: usize, bits: &[u8], first: usize) -> u8
 // The inputs' bits, as the first wires.
 fn put_inputs(ins: &[u8], bits: &mut [u8])
     requires { ⌜ length (now ins) ≤ length (now bits) ⌝ }
-    ensures { λ _. ⌜ now (bits .exit) ≡ tab (length (now (ins .entry))) (λ i. bit (truth (at (now (ins .entry)) i))) ++ drop (length (now (ins .entry))) (now (bits .entry)) ⌝ }
+    ensures { λ _. ⌜ now (bits .exit) ≡ tab (length (now (ins .entry))) (λ i. bitNumber (truth (at (now (ins .entry)) i))) ++ drop (length (now (ins .entry))) (now (bits .entry)) ⌝ }
 {
     let mut i = 0;
     while i < ins.len() {

@@ -8,13 +8,13 @@ use native.Mathlib.Nat.{add-mod-mod, add-mul-div-right, le-refl, add-sub-of-le, 
 use native.Mathlib.Omega.{arith}
 use native.Mathlib.Decide.{decLt}
 use lib.Pow.{pow-add, pow-pos, pow-mono, pow-lt, shr-shr, split, field}
-use Rattle.ring.specs.Word.{Q, Q-pos, neg}
+use Rattle.ring.specs.Word.{Q, Q-pos, neg, fieldOf}
 use Rattle.ring.specs.Sums.{sumTo}
 use Rattle.ring.proofs.Words.{mul-mod-l}
 use Rattle.params.specs.declared.Params.{Params}
 use Rattle.params.specs.Ranges.{InRange}
 use Rattle.key.specs.Offset.{offset}
-use Rattle.decomposition.specs.Digit.{fieldOf, digitOf, weight, cleared}
+use Rattle.decomposition.specs.Digit.{digitOf, digitWeight, cleared}
 
 -- ---- powers
 
@@ -134,8 +134,8 @@ module _ (w : ℕ) (w1 : 1 ≤ w) where
 
 module _ (p : Params) (r : InRange p) (x : ℕ) (hx : x < Q) where
   -- the digits recompose to the word with its low bits cleared
-  pub recompose : sumTo (p .l) (λ i. digitOf p x i * weight p i) % Q ≡ cleared p x
-  unfolding offset digitOf weight cleared
+  pub recompose : sumTo (p .l) (λ i. digitOf p x i * digitWeight p i) % Q ≡ cleared p x
+  unfolding offset digitOf digitWeight cleared
   recompose = recompose-w (p .bgbit) (r .bgbit-from) (p .l) (r .digits-to) x hx (omega (arith, r))
 
   -- a digit is, as a word, below 2^(BGBIT-1), or at most 2^(BGBIT-1) short of Q

@@ -4,12 +4,12 @@
 use mathlib.Core.Path.{_≡_, refl}
 use mathlib.Core.List.{List, [], _∷_}
 use Prim.Native.Nat.{ℕ}
-use Rattle.ring.specs.Word.{Q, neg}
+use Rattle.ring.specs.Word.{Q, neg, fieldOf}
 use Rattle.ring.specs.Sums.{sumTo, tab}
 use Rattle.params.specs.Ranges.{paramsNumber, switchingNumber}
 use Rattle.params.specs.Published.{numbers}
 use Rattle.key.specs.Offset.{offset}
-use Rattle.decomposition.specs.Digit.{fieldOf, digitOf, digitPoly}
+use Rattle.decomposition.specs.Digit.{digitOf, digitPoly}
 use Rattle.decomposition.specs.Pair.{pairDigit, polynomialNumber, polynomialOut}
 
 -- polynomial r of the 2L = 6 at N 2, BGBIT 6, L 3, of a pair whose digits 01 tells, into two words that held 9 and 9

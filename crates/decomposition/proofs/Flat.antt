@@ -17,7 +17,8 @@ use Rattle.ring.proofs.Tab.{length-tab, tab-snoc, tab-of}
 use Rattle.params.specs.declared.Params.{Params}
 use Rattle.params.specs.Sizes.{size}
 use Rattle.decomposition.specs.Digit.{digitPoly}
-use Rattle.decomposition.specs.Pair.{Pair, pairDigit}
+use Rattle.decomposition.specs.Pair.{pairDigit}
+use Rattle.ring.specs.Pair.{Pair}
 
 -- two parts
 pub tab-append : (m n : ℕ) (f : ℕ → ℕ) → tab (m + n) f ≡ tab m f ++ tab n (λ i. f (m + i))

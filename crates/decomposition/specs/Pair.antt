@@ -11,11 +11,7 @@ use Rattle.params.specs.Refusal.{check, ifDone}
 use Rattle.params.specs.Ranges.{paramsNumber}
 use Rattle.params.specs.Sizes.{size}
 use Rattle.decomposition.specs.Digit.{digitPoly}
-
--- A TRLWE ciphertext: two polynomials of N words (01, trlwe).
-pub record Pair : Type 0 where
-  pub a : List ℕ
-  pub b : List ℕ
+use Rattle.ring.specs.Pair.{Pair}
 
 -- The digit polynomial that row r of a key is multiplied with: those of a come first, then those of b.
 unfoldable pub pairDigit : Params → Pair → ℕ → List ℕ

@@ -8,7 +8,7 @@ use mathlib.Core.List.{List, [], _∷_, _++_}
 use Prim.Native.Nat.{ℕ, _+_, _*_, _-_, _%_}
 use lib.Dec.{ltb}
 use lib.IntN.{pos, negℤ}
-use Rattle.ring.specs.Word.{Q, neg, comp}
+use Rattle.ring.specs.Word.{Q, neg, comp, fieldOf as digitField}
 use Rattle.ring.specs.Sums.{sumTo, tab}
 use Rattle.ring.specs.Poly.{plus, minus, before, times, scale, total}
 use Rattle.ring.specs.Turn.{source, rotated, complemented}
@@ -22,13 +22,13 @@ use Rattle.tlwe.specs.Decrypt.{bitOf}
 use Rattle.rotation.specs.Amount.{half, step, maskAmount, bodyAmount}
 use Rattle.key.specs.Offset.{offset}
 use Rattle.key.specs.Switching.{rowIndex, rowPart, carried}
-use Rattle.key.specs.Generation.{rowOuter, rowField, rowDigit, drawn, rowMasks, rowNoise, drawnRow, generatedRow, joined, generated}
-use Rattle.decomposition.specs.Digit.{digitOf, digitPoly, fieldOf as digitField, weight as digitWeight}
+use Rattle.key.specs.Generation.{rowOuter, rowField, rowDigit, drawn, rowMasks, rowNoise, drawnRow, generatedRow, generated}
+use Rattle.decomposition.specs.Digit.{digitOf, digitPoly, digitWeight}
 use Rattle.decomposition.specs.Pair.{pairDigit}
-use Rattle.trgsw.specs.External.{part, rowA, rowB, external, cmuxOf}
+use Rattle.trgsw.specs.External.{rowA, rowB, external, cmuxOf}
 use Rattle.trgsw.specs.Errors.{lowPoly}
 use Rattle.blind_rotation.specs.Blind.{turned, bitRows, blindStep, stepsTo, startOf, blindRotated}
-use Rattle.switching.specs.Switched.{rounding, rounded, weight, fieldOf, fieldAt, used, takes, startWord, switched}
+use Rattle.switching.specs.Switched.{rounding, rounded, fieldWeight, switchField, maskField, used, takes, startWord, switched}
 use Rattle.switching.specs.Drift.{dropped}
 use Rattle.gates.specs.Kind.{weightsOf}
 use Rattle.gates.specs.Sum.{summed, muxSum, constantOf}
@@ -40,6 +40,7 @@ use Rattle.drift.specs.Polynomials.{centred, wholeSum, wholeTimes, whole
 use Rattle.drift.specs.Whole.{inside, freshDrift, shouldCarry, bootstrappingError, switchingError, remainder, broughtIn, complementsDrift, rowsDrift, stepDrift, rotationDrift, extractedDrift, switchedDrift, gateDrift, muxDrift}
 use Rattle.drift.specs.Circuit.{wayDrift, wayBrought, gateDriftOn, gateBroughtOn, freshTo, driftsTo, broughtTo, driftsOf, broughtOf, outputDriftsTo, allOf, allInside}
 use Rattle.drift.proofs.Examples.{junk}
+use Rattle.ring.specs.Lists.{joined, part}
 
 -- ---- one nand
 
@@ -93,14 +94,14 @@ pub nand-inside : (allInside eight key z ksk bsk nand noisy bits ≡ true)
     × (driftsOf eight key z ksk bsk nand noisy bits ≡ pos 0xC000000 ∷ pos 0xC000000 ∷ negℤ (pos 14325906) ∷ [])
     × (broughtOf eight key z ksk bsk nand noisy bits ≡ negℤ (pos 0x10000000) ∷ [])
     × (bitOf (phaseOf 1 key (cipherAt eight (ciphersOf eight ksk bsk nand noisy) 2)) ≡ false)
-unfolding Q neg comp H centre sumTo tab scale plus minus before times total source rotated complemented extract after inner samplePhase half step maskAmount bodyAmount offset carried rowOuter rowField rowDigit drawn rowMasks rowNoise drawnRow generatedRow joined generated rowIndex rowPart digitField digitOf digitPoly digitWeight pairDigit part rowA rowB external cmuxOf lowPoly turned bitRows blindStep stepsTo startOf blindRotated rounding rounded weight fieldOf fieldAt used takes startWord switched dropped weightsOf summed rotatedSample byteField ways wayOf rotationsOf rotationSum samplesOf made ran cipherAt gateCipher ciphersTo centred wholeSum wholeTimes wholeTurn wholePhase wholePairPhase inside freshDrift shouldCarry bootstrappingError switchingError remainder broughtIn complementsDrift rowsDrift stepDrift rotationDrift extractedDrift switchedDrift gateDrift wayDrift wayBrought gateDriftOn gateBroughtOn freshTo driftsTo broughtTo outputDriftsTo allOf allInside
+unfolding Q neg comp H centre sumTo tab scale plus minus before times total source rotated complemented extract after inner samplePhase half step maskAmount bodyAmount offset carried rowOuter rowField rowDigit drawn rowMasks rowNoise drawnRow generatedRow joined generated rowIndex rowPart digitField digitOf digitPoly digitWeight pairDigit part rowA rowB external cmuxOf lowPoly turned bitRows blindStep stepsTo startOf blindRotated rounding rounded fieldWeight switchField maskField used takes startWord switched dropped weightsOf summed rotatedSample byteField ways wayOf rotationsOf rotationSum samplesOf made ran cipherAt gateCipher ciphersTo centred wholeSum wholeTimes wholeTurn wholePhase wholePairPhase inside freshDrift shouldCarry bootstrappingError switchingError remainder broughtIn complementsDrift rowsDrift stepDrift rotationDrift extractedDrift switchedDrift gateDrift wayDrift wayBrought gateDriftOn gateBroughtOn freshTo driftsTo broughtTo outputDriftsTo allOf allInside
 nand-inside = (refl, refl, refl, refl)
 
 -- 2^29 is not inside: the turn falls on the other side, and the output decrypts to true
 pub nand-outside : (allInside eight key z ksk bsk nand noisier bits ≡ false)
     × (broughtOf eight key z ksk bsk nand noisier bits ≡ pos 0x20000000 ∷ [])
     × (bitOf (phaseOf 1 key (cipherAt eight (ciphersOf eight ksk bsk nand noisier) 2)) ≡ true)
-unfolding Q neg comp H centre sumTo tab scale plus minus before times total source rotated complemented extract after inner samplePhase half step maskAmount bodyAmount offset carried rowOuter rowField rowDigit drawn rowMasks rowNoise drawnRow generatedRow joined generated rowIndex rowPart digitField digitOf digitPoly digitWeight pairDigit part rowA rowB external cmuxOf lowPoly turned bitRows blindStep stepsTo startOf blindRotated rounding rounded weight fieldOf fieldAt used takes startWord switched dropped weightsOf summed rotatedSample byteField ways wayOf rotationsOf rotationSum samplesOf made ran cipherAt gateCipher ciphersTo centred wholeSum wholeTimes wholeTurn wholePhase wholePairPhase inside freshDrift shouldCarry bootstrappingError switchingError remainder broughtIn complementsDrift rowsDrift stepDrift rotationDrift extractedDrift switchedDrift gateDrift wayDrift wayBrought gateDriftOn gateBroughtOn freshTo driftsTo broughtTo outputDriftsTo allOf allInside
+unfolding Q neg comp H centre sumTo tab scale plus minus before times total source rotated complemented extract after inner samplePhase half step maskAmount bodyAmount offset carried rowOuter rowField rowDigit drawn rowMasks rowNoise drawnRow generatedRow joined generated rowIndex rowPart digitField digitOf digitPoly digitWeight pairDigit part rowA rowB external cmuxOf lowPoly turned bitRows blindStep stepsTo startOf blindRotated rounding rounded fieldWeight switchField maskField used takes startWord switched dropped weightsOf summed rotatedSample byteField ways wayOf rotationsOf rotationSum samplesOf made ran cipherAt gateCipher ciphersTo centred wholeSum wholeTimes wholeTurn wholePhase wholePairPhase inside freshDrift shouldCarry bootstrappingError switchingError remainder broughtIn complementsDrift rowsDrift stepDrift rotationDrift extractedDrift switchedDrift gateDrift wayDrift wayBrought gateDriftOn gateBroughtOn freshTo driftsTo broughtTo outputDriftsTo allOf allInside
 nand-outside = (refl, refl, refl)
 
 -- a bootstrapping key of no words, which reads as zeros: what is brought in is inside, but the output's drift is a quarter of a turn, and it decrypts to true
@@ -108,7 +109,7 @@ pub nand-astray : (allInside eight key z ksk [] nand noisy bits ≡ false)
     × (broughtOf eight key z ksk [] nand noisy bits ≡ negℤ (pos 0x10000000) ∷ [])
     × (driftsOf eight key z ksk [] nand noisy bits ≡ pos 0xC000000 ∷ pos 0xC000000 ∷ pos 0x40000000 ∷ [])
     × (bitOf (phaseOf 1 key (cipherAt eight (ciphersOf eight ksk [] nand noisy) 2)) ≡ true)
-unfolding Q neg comp H centre sumTo tab scale plus minus before times total source rotated complemented extract after inner samplePhase half step maskAmount bodyAmount offset carried rowOuter rowField rowDigit drawn rowMasks rowNoise drawnRow generatedRow joined generated rowIndex rowPart digitField digitOf digitPoly digitWeight pairDigit part rowA rowB external cmuxOf lowPoly turned bitRows blindStep stepsTo startOf blindRotated rounding rounded weight fieldOf fieldAt used takes startWord switched dropped weightsOf summed rotatedSample byteField ways wayOf rotationsOf rotationSum samplesOf made ran cipherAt gateCipher ciphersTo centred wholeSum wholeTimes wholeTurn wholePhase wholePairPhase inside freshDrift shouldCarry bootstrappingError switchingError remainder broughtIn complementsDrift rowsDrift stepDrift rotationDrift extractedDrift switchedDrift gateDrift wayDrift wayBrought gateDriftOn gateBroughtOn freshTo driftsTo broughtTo outputDriftsTo allOf allInside
+unfolding Q neg comp H centre sumTo tab scale plus minus before times total source rotated complemented extract after inner samplePhase half step maskAmount bodyAmount offset carried rowOuter rowField rowDigit drawn rowMasks rowNoise drawnRow generatedRow joined generated rowIndex rowPart digitField digitOf digitPoly digitWeight pairDigit part rowA rowB external cmuxOf lowPoly turned bitRows blindStep stepsTo startOf blindRotated rounding rounded fieldWeight switchField maskField used takes startWord switched dropped weightsOf summed rotatedSample byteField ways wayOf rotationsOf rotationSum samplesOf made ran cipherAt gateCipher ciphersTo centred wholeSum wholeTimes wholeTurn wholePhase wholePairPhase inside freshDrift shouldCarry bootstrappingError switchingError remainder broughtIn complementsDrift rowsDrift stepDrift rotationDrift extractedDrift switchedDrift gateDrift wayDrift wayBrought gateDriftOn gateBroughtOn freshTo driftsTo broughtTo outputDriftsTo allOf allInside
 nand-astray = (refl, refl, refl, refl)
 
 -- ---- five gates on junk
@@ -134,5 +135,5 @@ two-inputs = 0x2BADCAFE ∷ 0x9ABCDEF0 ∷ 0xBADCAFE5 ∷ 0x0DEFACED ∷ []
 pub five-gates : (driftsOf two key (1 ∷ 1 ∷ []) (junk 32 11) (junk 16 7) five two-inputs (1 ∷ 0 ∷ [])
     ≡ pos 1326388210 ∷ pos 1930624264 ∷ negℤ (pos 1829675921) ∷ pos 88461354 ∷ negℤ (pos 88461354) ∷ pos 1 ∷ pos 0 ∷ [])
     × (broughtOf two key (1 ∷ 1 ∷ []) (junk 32 11) (junk 16 7) five two-inputs (1 ∷ 0 ∷ []) ≡ pos 0x20000000 ∷ negℤ (pos 0x60000000) ∷ pos 0x20000000 ∷ [])
-unfolding Q neg comp H centre sumTo tab scale plus minus before times total source rotated complemented extract after inner samplePhase half step maskAmount bodyAmount offset carried rowOuter rowField rowDigit drawn rowMasks rowNoise drawnRow generatedRow joined generated rowIndex rowPart digitField digitOf digitPoly digitWeight pairDigit part rowA rowB external cmuxOf lowPoly turned bitRows blindStep stepsTo startOf blindRotated rounding rounded weight fieldOf fieldAt used takes startWord switched dropped weightsOf summed negative constantOf muxSum rotatedSample byteField ways wayOf rotationsOf rotationSum samplesOf made ran cipherAt gateCipher ciphersTo centred wholeSum wholeTimes wholeTurn wholePhase wholePairPhase inside freshDrift shouldCarry bootstrappingError switchingError remainder broughtIn complementsDrift rowsDrift stepDrift rotationDrift extractedDrift switchedDrift gateDrift muxDrift wayDrift wayBrought gateDriftOn gateBroughtOn freshTo driftsTo broughtTo outputDriftsTo allOf allInside
+unfolding Q neg comp H centre sumTo tab scale plus minus before times total source rotated complemented extract after inner samplePhase half step maskAmount bodyAmount offset carried rowOuter rowField rowDigit drawn rowMasks rowNoise drawnRow generatedRow joined generated rowIndex rowPart digitField digitOf digitPoly digitWeight pairDigit part rowA rowB external cmuxOf lowPoly turned bitRows blindStep stepsTo startOf blindRotated rounding rounded fieldWeight switchField maskField used takes startWord switched dropped weightsOf summed negative constantOf muxSum rotatedSample byteField ways wayOf rotationsOf rotationSum samplesOf made ran cipherAt gateCipher ciphersTo centred wholeSum wholeTimes wholeTurn wholePhase wholePairPhase inside freshDrift shouldCarry bootstrappingError switchingError remainder broughtIn complementsDrift rowsDrift stepDrift rotationDrift extractedDrift switchedDrift gateDrift muxDrift wayDrift wayBrought gateDriftOn gateBroughtOn freshTo driftsTo broughtTo outputDriftsTo allOf allInside
 five-gates = (refl, refl)

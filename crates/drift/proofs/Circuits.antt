@@ -21,11 +21,11 @@ use Rattle.tlwe.specs.Key.{binary, phaseOf}
 use Rattle.tlwe.specs.Plain.{bitWord}
 use Rattle.circuit.specs.Kinds.{kindOf}
 use Rattle.circuit.specs.Form.{inputs, gates, kindAt, operandAt}
-use Rattle.circuit.specs.Plain.{truth, bit, meaningOf, gateBit, wiresTo, inputBits}
+use Rattle.circuit.specs.Plain.{bitMeaning, gateBit, wiresTo, inputBits}
 use Rattle.circuit.specs.Valid.{Valid}
 use Rattle.circuit.proofs.Accept.{lt-or-ge}
 use Rattle.circuit.proofs.Wires.{length-wires}
-use Rattle.encrypted_run.specs.Ways.{wayOf, operandsOf, meant}
+use Rattle.encrypted_run.specs.Ways.{wayOf, operandsOf, wayMeaning}
 use Rattle.encrypted_run.specs.Run.{cipherAt, gateCipher, ciphersTo}
 use Rattle.encrypted_run.proofs.Ciphers.{wire-within}
 use Rattle.encrypted_run.proofs.Operands.{ways-need}
@@ -35,9 +35,10 @@ use Rattle.encrypted_run.proofs.Laws.{cipher-front, cipher-next}
 use Rattle.drift.specs.Words.{freshWord}
 use Rattle.drift.specs.CircuitWords.{gateWordOn, gateBroughtWords, freshWords, driftWordsTo, broughtWordsTo, allWords}
 use Rattle.drift.proofs.Ways.{all-both, way-means}
+use Rattle.ring.specs.Bit.{truth, bitNumber}
 
 -- a bit handed back is that bit
-pub bit-truth : (b : Bool) → truth (bit b) ≡ b
+pub bit-truth : (b : Bool) → truth (bitNumber b) ≡ b
 bit-truth true = refl
 bit-truth false = refl
 
@@ -70,7 +71,7 @@ module _ (p : Params) (r : InRange p) (key z : List ℕ) (binary-key : binary ke
       omega (arith, e, i)
 
   bits-length : (g : ℕ) → length (vs g) ≡ inputs bs + g
-  bits-length g = length-wires bs (inputBits bs plain) g ∙ ap (λ (k : ℕ). k + g) (length-tab (inputs bs) (λ i. bit (truth (at plain i))))
+  bits-length g = length-wires bs (inputBits bs plain) g ∙ ap (λ (k : ℕ). k + g) (length-tab (inputs bs) (λ i. bitNumber (truth (at plain i))))
 
   ciphers-fill : (g : ℕ) → length (cs g) ≡ (inputs bs + g) * (p .n + 1)
   ciphers-fill g = let e = ciphers-length p ksk bsk bs ins g in omega (arith, e, li)
@@ -85,7 +86,7 @@ module _ (p : Params) (r : InRange p) (key z : List ℕ) (binary-key : binary ke
       let l : w < inputs bs = omega arith in
       fresh-carries p key (cipherAt p ins w) (truth (at plain w))
       ∙ ap₂ (λ (b : Bool) (d : ℕ). (bitWord b + d) % Q)
-      (sym (bit-truth (truth (at plain w))) ∙ ap truth (sym (at-tab (inputs bs) (λ i. bit (truth (at plain i))) w l)))
+      (sym (bit-truth (truth (at plain w))) ∙ ap truth (sym (at-tab (inputs bs) (λ i. bitNumber (truth (at plain i))) w l)))
       (sym (at-tab (inputs bs) (λ i. freshWord p key (cipherAt p ins i) (truth (at plain i))) w l))
 
   module _ (g : ℕ) (l : g < gates bs) where
@@ -106,7 +107,7 @@ module _ (p : Params) (r : InRange p) (key z : List ℕ) (binary-key : binary ke
       needed x b h = before (operandAt bs g x) (v .every-gate g l .needed x b (rw (ways-need (kindAt bs g) (v .every-gate g l .kind-to)) at h))
 
       means : phaseOf (p .n) key (gateCipher p ksk bsk bs (cs g) g) ≡ (bitWord (truth (gateBit bs (vs g) g)) + gateWordOn p key z ksk bsk bs (cs g) (ds g) g) % Q
-      unfolding gateCipher gateWordOn gateBroughtWords meaningOf
+      unfolding gateCipher gateWordOn gateBroughtWords bitMeaning
       means =
           let va = truth (at (vs g) (operandAt bs g 0)) in
           let vb = truth (at (vs g) (operandAt bs g 1)) in

@@ -8,17 +8,17 @@ use Prim.Native.Nat.{ℕ, zero, suc, _+_, _*_, _%_, _<_}
 use native.Mathlib.Omega.{arith}
 use lib.IntN.{pos, _+ℤ_, _*ℤ_}
 use lib.ListN.{length}
-use Rattle.ring.specs.Word.{Q, at}
-use Rattle.ring.specs.Centre.{H, centre}
+use Rattle.ring.specs.Word.{Q, at, eighth}
+use Rattle.ring.specs.Centre.{H, centre, wordOf}
 use Rattle.ring.proofs.Tab.{at-tab}
 use Rattle.params.specs.declared.Params.{Params}
 use Rattle.params.specs.Ranges.{InRange}
 use Rattle.tlwe.specs.Key.{binary, phaseOf}
 use Rattle.tlwe.specs.Plain.{bitWord}
 use Rattle.tlwe.specs.Decrypt.{bitOf}
-use Rattle.gates.specs.Kind.{wordOf, sign, eighth}
+use Rattle.gates.specs.Kind.{sign}
 use Rattle.circuit.specs.Form.{inputs, gates, outputs, wires, outputAt}
-use Rattle.circuit.specs.Plain.{truth, wiresOf, outputBits}
+use Rattle.circuit.specs.Plain.{wiresOf, outputBits}
 use Rattle.circuit.specs.Valid.{Valid}
 use Rattle.circuit.proofs.Laws.{output-wire as plain-output}
 use Rattle.encrypted_run.specs.Run.{cipherAt, ciphersOf, outputCiphers}
@@ -32,6 +32,7 @@ use Rattle.drift.proofs.Round.{inside-decrypts}
 use Rattle.drift.proofs.Circuits.{wires-mean}
 use Rattle.drift.proofs.Suffice.{is-bit}
 use Rattle.drift.proofs.Lists.{word-at, at-below, all-reckoned, drifts-reckoned, brought-reckoned, outputs-reckoned}
+use Rattle.ring.specs.Bit.{truth}
 
 -- where all are inside, the one at a place is; past the end it is 0
 all-at : (ns : List ℕ) → allWords ns ≡ true → (i : ℕ) → insideWord (at ns i) ≡ true

@@ -6,7 +6,7 @@ use mathlib.Core.Bool.{true, false}
 use mathlib.Core.List.{List, [], _∷_}
 use Prim.Native.Nat.{ℕ, _+_, _*_, _%_}
 use lib.IntN.{pos, negℤ}
-use Rattle.ring.specs.Word.{Q, neg, comp}
+use Rattle.ring.specs.Word.{Q, neg, comp, fieldOf as digitField}
 use Rattle.ring.specs.Sums.{sumTo, tab}
 use Rattle.ring.specs.Poly.{plus, minus, before, times, total}
 use Rattle.ring.specs.Turn.{source, rotated, complemented}
@@ -17,12 +17,12 @@ use Rattle.params.specs.Published.{numbers}
 use Rattle.rotation.specs.Amount.{half, step, maskAmount, bodyAmount}
 use Rattle.key.specs.Offset.{offset}
 use Rattle.key.specs.Switching.{rowIndex, rowPart}
-use Rattle.decomposition.specs.Digit.{digitOf, digitPoly, fieldOf as digitField, weight as digitWeight}
+use Rattle.decomposition.specs.Digit.{digitOf, digitPoly, digitWeight}
 use Rattle.decomposition.specs.Pair.{pairDigit}
-use Rattle.trgsw.specs.External.{part, rowA, rowB, external, cmuxOf}
+use Rattle.trgsw.specs.External.{rowA, rowB, external, cmuxOf}
 use Rattle.trgsw.specs.Errors.{lowPoly}
 use Rattle.blind_rotation.specs.Blind.{turned, bitRows, blindStep, stepsTo, startOf, blindRotated}
-use Rattle.switching.specs.Switched.{rounding, rounded, weight, fieldOf, fieldAt}
+use Rattle.switching.specs.Switched.{rounding, rounded, fieldWeight, switchField, maskField}
 use Rattle.switching.specs.Drift.{dropped}
 use Rattle.gates.specs.declared.Kind.the-variants.{Xor}
 use Rattle.gates.specs.Sum.{muxSum}
@@ -31,6 +31,7 @@ use Rattle.drift.specs.Polynomials.{centred, wholeSum, wholeTimes, whole
 use Rattle.drift.specs.Whole.{inside, freshDrift, shouldCarry, bootstrappingError, switchingError, remainder, broughtIn, complementsDrift, rowsDrift, stepDrift, rotationDrift, extractedDrift, switchedDrift, gateDrift, muxDrift}
 use Rattle.drift.specs.Circuit.{worse, worstFrom, worstOf}
 use Rattle.drift.specs.Words.{insideWord}
+use Rattle.ring.specs.Lists.{part}
 
 -- ---- by hand
 
@@ -113,5 +114,5 @@ step-values = (refl, refl, refl, refl, refl, refl)
 pub gate-values : (switchedDrift small key ones (junk 32 11) (0x12345678 ∷ 0x9ABCDEF0 ∷ 0 ∷ []) ≡ negℤ (pos 514162075))
     × (gateDrift small key ones (junk 32 11) (junk 16 7) src ≡ pos 809288528)
     × (muxDrift small key ones (junk 32 11) (junk 16 7) src other ≡ negℤ (pos 1965194713))
-unfolding Q neg comp H centre sumTo tab plus minus before times total source rotated complemented extract after half step maskAmount bodyAmount offset rowIndex rowPart digitField digitOf digitPoly digitWeight pairDigit part rowA rowB external cmuxOf lowPoly turned bitRows blindStep stepsTo startOf blindRotated rounding rounded weight fieldOf fieldAt dropped muxSum rotatedSample centred wholeSum wholeTimes wholeTurn wholePhase wholePairPhase shouldCarry bootstrappingError switchingError complementsDrift rowsDrift stepDrift rotationDrift extractedDrift switchedDrift gateDrift muxDrift
+unfolding Q neg comp H centre sumTo tab plus minus before times total source rotated complemented extract after half step maskAmount bodyAmount offset rowIndex rowPart digitField digitOf digitPoly digitWeight pairDigit part rowA rowB external cmuxOf lowPoly turned bitRows blindStep stepsTo startOf blindRotated rounding rounded fieldWeight switchField maskField dropped muxSum rotatedSample centred wholeSum wholeTimes wholeTurn wholePhase wholePairPhase shouldCarry bootstrappingError switchingError complementsDrift rowsDrift stepDrift rotationDrift extractedDrift switchedDrift gateDrift muxDrift
 gate-values = (refl, refl, refl)

@@ -10,15 +10,13 @@ use lib.IntN.{ℤ, pos, natAbs}
 use lib.ListN.{List·getD-map}
 use Rattle.ring.specs.Word.{Q, Q-pos, at, neg}
 use Rattle.ring.specs.Sums.{tab}
-use Rattle.ring.specs.Centre.{H, centre}
+use Rattle.ring.specs.Centre.{H, centre, wordOf}
 use Rattle.ring.proofs.Tab.{tab-snoc}
 use Rattle.params.specs.declared.Params.{Params}
 use Rattle.tlwe.specs.Key.{binary}
 use Rattle.gates.specs.declared.Kind.the-variants.{And, AndNy}
-use Rattle.gates.specs.Kind.{wordOf}
 use Rattle.gates.specs.Sum.{summed}
 use Rattle.circuit.specs.Form.{inputs, gates, outputs, kindAt, operandAt, outputAt}
-use Rattle.circuit.specs.Plain.{truth}
 use Rattle.encrypted_run.specs.declared.Way.{Way}
 use Rattle.encrypted_run.specs.declared.Way.the-variants.{Known, Negated, Gate, NegatedGate, Choice}
 use Rattle.encrypted_run.specs.Ways.{Operand, Rotation, wayOf, operand, rotationsOf, rotationSum}
@@ -29,6 +27,7 @@ use Rattle.drift.specs.Circuit.{wayDrift, wayBrought, driftAt, gateDrift
 use Rattle.drift.specs.CircuitWords.{wayWord, wayBroughtWords, gateWordOn, gateBroughtWords, freshWords, driftWordsTo, broughtWordsTo, allWords, outputWords, worseWord, worstWords}
 use Rattle.drift.proofs.Residues.{word-below}
 use Rattle.drift.proofs.Suffice.{Reckoned, reckoned, centred-back, word-centred, fresh-word, brought-word, gate-word, words-suffice}
+use Rattle.ring.specs.Bit.{truth}
 
 -- ---- lists
 

@@ -7,7 +7,7 @@ use mathlib.Core.List.{List}
 use Prim.Native.Nat.{ℕ, _+_, _*_, _-_, _%_, _^_, _≤_, _<_}
 use native.Mathlib.Nat.{mod-lt, add-mod, mod-add-mod}
 use native.Mathlib.Omega.{arith}
-use Rattle.ring.specs.Word.{Q, Q-pos, at, neg}
+use Rattle.ring.specs.Word.{Q, Q-pos, at, neg, eighth}
 use Rattle.ring.proofs.Tab.{at-tab}
 use Rattle.params.specs.declared.Params.{Params}
 use Rattle.params.specs.Ranges.{InRange}
@@ -16,7 +16,7 @@ use Rattle.tlwe.specs.Plain.{bitWord}
 use Rattle.tlwe.specs.Linear.{negative}
 use Rattle.gates.specs.declared.Kind.{Kind}
 use Rattle.gates.specs.declared.Kind.the-variants.{Or, And, AndNy}
-use Rattle.gates.specs.Kind.{meaning, eighth, sumOf, standsFor}
+use Rattle.gates.specs.Kind.{meaning, sumOf, standsFor}
 use Rattle.gates.specs.Sum.{summed, muxSum}
 use Rattle.gates.specs.Gate.{rotatedSample, bootstrapped, gated, muxed, muxedNaive}
 use Rattle.drift.specs.Words.{roundingWord, broughtWord, insideWord, extractedWord, gateWord, muxWord}

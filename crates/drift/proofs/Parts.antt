@@ -21,19 +21,20 @@ use Rattle.params.specs.declared.Params.{Params}
 use Rattle.params.specs.Sizes.{size}
 use Rattle.params.proofs.Ranges.{size-from}
 use Rattle.rotation.specs.Amount.{half, step, maskAmount, bodyAmount}
-use Rattle.key.specs.Switching.{rowPart, carried, rowError as switchingRow}
-use Rattle.decomposition.specs.Digit.{weight, digitOf, digitPoly}
-use Rattle.decomposition.specs.Pair.{Pair, pairDigit}
+use Rattle.key.specs.Switching.{rowPart, carried, switchingRowError as switchingRow}
+use Rattle.decomposition.specs.Digit.{digitWeight, digitOf, digitPoly}
+use Rattle.decomposition.specs.Pair.{pairDigit}
 use Rattle.trgsw.specs.External.{rowA, rowB}
-use Rattle.trgsw.specs.Errors.{rowError, digitErrors, lowPoly}
+use Rattle.trgsw.specs.Errors.{bootstrappingRowError, digitErrors, lowPoly}
 use Rattle.blind_rotation.specs.Blind.{bitRows, stepsTo, startOf, testPair}
 use Rattle.blind_rotation.specs.Drift.{complementDrift, stepMoved, driftStep, driftTo}
-use Rattle.switching.specs.Switched.{rounding, fieldAt, used}
+use Rattle.switching.specs.Switched.{rounding, maskField, used}
 use Rattle.switching.specs.Drift.{dropped, usedErrors, roundedBy, switchingDrift}
 use Rattle.drift.specs.Polynomials.{wholeSum, wholes, signeds, wholeTimes, wholeTurn, wholePairPhase}
 use Rattle.drift.specs.Whole.{shouldCarry, bootstrappingError, switchingError, remainder, complementsDrift, rowsDrift, stepDrift, rotationDrift, extractedDrift, switchedDrift}
 use Rattle.drift.specs.Words.{remainderWord, selectedWord, extractedWord}
 use Rattle.drift.proofs.Residues.{Is, is-pos, is-add, is-times, is-neg, is-minus, is-same, is-mod, is-sum, is-centre, is-centred, Are, are-wholes, are-tab, are-plus, are-minus, are-times, are-turned, are-total, is-phase, are-phase}
+use Rattle.ring.specs.Pair.{Pair}
 
 -- ---- remainders
 
@@ -78,8 +79,8 @@ module _ (p : Params) (z : List ℕ) where
   unfolding scale
   are-scaled c f a h = are-tab N f _ (λ i l. is-mod (h i l))
 
-  are-errors : (rows : List ℕ) (m j : ℕ) → Are N (bootstrappingError p z rows m j) (rowError p z rows m j)
-  unfolding bootstrappingError rowError shouldCarry
+  are-errors : (rows : List ℕ) (m j : ℕ) → Are N (bootstrappingError p z rows m j) (bootstrappingRowError p z rows m j)
+  unfolding bootstrappingError bootstrappingRowError shouldCarry
   are-errors rows m j i l = is-centred (go (ltb j (p .l)))
     where
       ph : ℕ → ℤ
@@ -89,10 +90,10 @@ module _ (p : Params) (z : List ℕ) where
       pw = phase N z (rowA p rows j) (rowB p rows j)
 
       c : ℕ
-      c = m * weight p j
+      c = m * digitWeight p j
 
       d : ℕ
-      d = m * weight p (j - p .l)
+      d = m * digitWeight p (j - p .l)
 
       go : (t : Bool) → Is (ph i -ℤ cond t (negℤ (pos c *ℤ wholes z i)) (cond (eqb i 0) (pos d) (pos 0))) (at (cond t (plus N pw (scale N c z)) (minus N pw (scale N d (1 ∷ [])))) i)
       go true = rw (negℤ-negℤ (pos c *ℤ wholes z i)) (are-plus N ph (λ y. pos c *ℤ wholes z y) pw (scale N c z) (are-phase N z (rowA p rows j) (rowB p rows j))
@@ -102,8 +103,8 @@ module _ (p : Params) (z : List ℕ) where
 
   are-rows : (rows : List ℕ) (m : ℕ) (x : Pair) → Are N (rowsDrift p z rows m x) (digitErrors p z rows m x)
   unfolding rowsDrift digitErrors
-  are-rows rows m x = are-total N (p .l + p .l) (λ j. wholeTimes N (signeds (pairDigit p x j)) (bootstrappingError p z rows m j)) (λ j. times N (pairDigit p x j) (rowError p z rows m j))
-      (λ j b. are-times N (signeds (pairDigit p x j)) (bootstrappingError p z rows m j) (pairDigit p x j) (rowError p z rows m j) (are-digits x j) (are-errors rows m j))
+  are-rows rows m x = are-total N (p .l + p .l) (λ j. wholeTimes N (signeds (pairDigit p x j)) (bootstrappingError p z rows m j)) (λ j. times N (pairDigit p x j) (bootstrappingRowError p z rows m j))
+      (λ j b. are-times N (signeds (pairDigit p x j)) (bootstrappingError p z rows m j) (pairDigit p x j) (bootstrappingRowError p z rows m j) (are-digits x j) (are-errors rows m j))
 
   -- one step
   are-stepped : (bsk : List ℕ) (i bit mask : ℕ) (x : Pair) (f : ℕ → ℤ) (e : List ℕ) → bit ≤ 1 → Are N f e → Are N (stepDrift p z bsk i bit mask x f) (driftStep p z bsk i bit mask x e)
@@ -157,7 +158,7 @@ module _ (p : Params) (key z ksk : List ℕ) where
   pub is-switched : (sample : List ℕ) → Is (switchedDrift p key z ksk sample) (switchingDrift p key z ksk sample)
   unfolding switchedDrift switchingDrift usedErrors roundedBy
   is-switched sample = is-mod (is-same _ (is-minus
-      (is-neg (is-sum (size p) _ (usedErrors p key z ksk sample) (λ i l. is-sum (p .t) _ _ (λ j b. is-used (fieldAt p sample i j) (is-error i j (fieldAt p sample i j))))))
+      (is-neg (is-sum (size p) _ (usedErrors p key z ksk sample) (λ i l. is-sum (p .t) _ _ (λ j b. is-used (maskField p sample i j) (is-error i j (maskField p sample i j))))))
       (is-sum (size p) _ (roundedBy p z sample) (λ i l. is-times (is-pos (at z i)) (is-minus (is-pos (rounding p)) (is-pos (dropped p (at sample i)))))))
       (apart (sumTo (size p) (usedErrors p key z ksk sample)) (sumTo (size p) (roundedBy p z sample))
       ∙ ap (λ (n : ℕ). neg n % Q) (sym (sum-add (size p) (usedErrors p key z ksk sample) (roundedBy p z sample)))))

@@ -9,7 +9,7 @@ use native.Mathlib.Nat.{zero-mul, add-mod, mod-add-mod}
 use native.Mathlib.Omega.{arith}
 use lib.Dec.{eqb, leb, lit<}
 use borrow.Author.Tests.{eq-eqb, ne-eqb, leb-true}
-use Rattle.ring.specs.Word.{Q, at, neg}
+use Rattle.ring.specs.Word.{Q, at, neg, eighth}
 use Rattle.ring.specs.Sums.{sumTo, tab}
 use Rattle.ring.specs.Poly.{plus, scale}
 use Rattle.ring.specs.Phase.{inner, samplePhase}
@@ -23,7 +23,7 @@ use Rattle.tlwe.specs.Plain.{bitWord}
 use Rattle.tlwe.specs.Linear.{negative}
 use Rattle.tlwe.proofs.Phases.{phase-combine, phase-add, phase-neg}
 use Rattle.gates.specs.declared.Kind.{Kind}
-use Rattle.gates.specs.Kind.{weightsOf, eighth, sumOf}
+use Rattle.gates.specs.Kind.{weightsOf, sumOf}
 use Rattle.gates.specs.Sum.{lastWord, summed, muxSum, constantWord, constantOf}
 use Rattle.drift.specs.Words.{roundingWord, broughtWord}
 use Rattle.gates.proofs.Stores.{at-combined, at-plus}

@@ -14,7 +14,7 @@ use Rattle.ring.specs.Sums.{sumTo, tab}
 use Rattle.ring.specs.Poly.{plus, minus, before, times, total}
 use Rattle.ring.specs.Turn.{source, negating}
 use Rattle.ring.specs.Phase.{phase, inner, samplePhase}
-use Rattle.ring.specs.Centre.{centre}
+use Rattle.ring.specs.Centre.{centre, wordOf}
 use Rattle.ring.proofs.Word.{word-add, word-mul, word-mod}
 use Rattle.ring.proofs.Whole.{Wholes, map-neg, red, red-add, red-mul, reduce}
 use Rattle.ring.proofs.Value.{𝓦, w, w-neg, by-test}
@@ -22,7 +22,6 @@ use Rattle.ring.proofs.Extract.{w-injective}
 use Rattle.ring.proofs.Centre.{r, centre-red}
 use Rattle.ring.proofs.Tab.{at-tab}
 use Rattle.tlwe.specs.Key.{phaseOf}
-use Rattle.gates.specs.Kind.{wordOf}
 use Rattle.drift.specs.Polynomials.{centred, wholeSum, wholes, wholeTimes, wholeTurn, wholePhase, wholePairPhase}
 
 -- ---- numbers

@@ -11,7 +11,7 @@ use native.Mathlib.Decide.{ℕ-discrete, decLt}
 use native.Mathlib.Omega.{arith}
 use lib.Dec.{ltb, eqb}
 use borrow.Author.Tests.{ltb-true, eqb-true, ne-eqb, lt-ltb, le-ltb}
-use Rattle.ring.specs.Word.{Q, Q-pos, at, neg}
+use Rattle.ring.specs.Word.{Q, Q-pos, at, neg, eighth}
 use Rattle.ring.specs.Sums.{sumTo}
 use Rattle.ring.specs.Phase.{inner}
 use Rattle.ring.specs.Turn.{source}
@@ -34,7 +34,7 @@ use Rattle.tlwe.specs.Plain.{bitWord}
 use Rattle.tlwe.specs.Decrypt.{bitOf}
 use Rattle.tlwe.proofs.Inverse.{inside-cases, bit-back}
 use Rattle.blind_rotation.specs.Drift.{turnTo}
-use Rattle.gates.specs.Kind.{eighth, standsFor}
+use Rattle.gates.specs.Kind.{standsFor}
 use Rattle.drift.proofs.Track.{turn-sum}
 use Rattle.drift.specs.Short.{sideOf}
 use Rattle.drift.specs.Words.{remainderWord, selectedWord, roundingWord, insideWord}

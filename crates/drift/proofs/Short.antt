@@ -6,14 +6,13 @@ use mathlib.Core.List.{List}
 use Prim.Native.Nat.{ℕ, _+_, _%_, _<_}
 use native.Mathlib.Nat.{mod-lt}
 use native.Mathlib.Omega.{arith}
-use Rattle.ring.specs.Word.{Q, Q-pos, neg}
+use Rattle.ring.specs.Word.{Q, Q-pos, neg, eighth}
 use Rattle.params.specs.declared.Params.{Params}
 use Rattle.params.specs.Ranges.{InRange}
 use Rattle.tlwe.specs.Key.{binary, phaseOf}
 use Rattle.tlwe.specs.Plain.{bitWord}
 use Rattle.tlwe.proofs.Phases.{phase-neg}
 use Rattle.gates.specs.declared.Kind.the-variants.{And, AndNy}
-use Rattle.gates.specs.Kind.{eighth}
 use Rattle.gates.specs.Sum.{summed}
 use Rattle.gates.specs.Gate.{gated}
 use Rattle.encrypted_run.specs.declared.Way.{Way}

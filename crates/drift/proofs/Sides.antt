@@ -8,7 +8,7 @@ use Prim.Native.Nat.{ℕ, _+_, _-_, _%_, _^_, _≤_, _<_}
 use native.Mathlib.Nat.{mod-lt, add-mod, mod-add-mod}
 use native.Mathlib.Omega.{arith}
 use lib.Dec.{ltb, ltb→lt, nltb→le}
-use Rattle.ring.specs.Word.{Q, at, neg}
+use Rattle.ring.specs.Word.{Q, at, neg, eighth}
 use Rattle.ring.specs.Turn.{source, negating}
 use Rattle.ring.specs.Phase.{after}
 use Rattle.ring.proofs.Tab.{at-tab}
@@ -26,7 +26,6 @@ use Rattle.blind_rotation.specs.Drift.{turnTo, driftTo}
 use Rattle.switching.specs.Drift.{switchingDrift}
 use Rattle.switching.proofs.Phase.{switching-phase}
 use Rattle.gates.specs.declared.Kind.the-variants.{And, AndNy}
-use Rattle.gates.specs.Kind.{eighth}
 use Rattle.gates.specs.Sum.{summed, muxSum}
 use Rattle.gates.specs.Gate.{rotatedSample, bootstrapped, muxed}
 use Rattle.gates.proofs.Stores.{at-plus}

@@ -8,13 +8,13 @@ use Prim.Native.Nat.{ℕ, _+_, _*_, _%_, _<_}
 use native.Mathlib.Nat.{mod-lt, mod-eq-of-lt}
 use native.Mathlib.Omega.{arith}
 use lib.IntN.{ℤ, pos, negℤ, _*ℤ_}
-use Rattle.ring.specs.Word.{Q, Q-pos, at, neg}
-use Rattle.ring.specs.Centre.{centre}
+use Rattle.ring.specs.Word.{Q, Q-pos, at, neg, eighth}
+use Rattle.ring.specs.Centre.{centre, wordOf}
 use Rattle.params.specs.declared.Params.{Params}
 use Rattle.tlwe.specs.Key.{binary}
 use Rattle.tlwe.specs.Plain.{bitWord}
 use Rattle.gates.specs.declared.Kind.{Kind}
-use Rattle.gates.specs.Kind.{rowOf, weightsOf, wordOf, sign, eighth}
+use Rattle.gates.specs.Kind.{rowOf, weightsOf, sign}
 use Rattle.gates.specs.Sum.{muxSum}
 use Rattle.gates.specs.Gate.{rotatedSample}
 use Rattle.drift.specs.Polynomials.{centred}

@@ -8,22 +8,21 @@ use Prim.Native.Nat.{ℕ, _+_, _%_, _<_}
 use native.Mathlib.Nat.{mod-lt}
 use native.Mathlib.Omega.{arith}
 use lib.Dec.{lit<}
-use Rattle.ring.specs.Word.{Q, Q-pos, neg}
+use Rattle.ring.specs.Word.{Q, Q-pos, neg, eighth}
 use Rattle.params.specs.declared.Params.{Params}
 use Rattle.params.specs.Ranges.{InRange}
-use Rattle.params.specs.Refusal.{pick}
 use Rattle.tlwe.specs.Key.{binary, phaseOf}
 use Rattle.tlwe.specs.Plain.{bitWord}
 use Rattle.tlwe.specs.Linear.{negative}
 use Rattle.tlwe.proofs.Phases.{phase-neg}
 use Rattle.gates.specs.declared.Kind.{Kind}
 use Rattle.gates.specs.declared.Kind.the-variants.{And, AndNy}
-use Rattle.gates.specs.Kind.{meaning, eighth}
+use Rattle.gates.specs.Kind.{meaning}
 use Rattle.gates.specs.Sum.{summed}
 use Rattle.gates.specs.Gate.{gated}
 use Rattle.encrypted_run.specs.declared.Way.{Way}
 use Rattle.encrypted_run.specs.declared.Way.the-variants.{Known, Negated, Gate, NegatedGate, Choice}
-use Rattle.encrypted_run.specs.Ways.{rotationsOf, rotationSum, operandsOf, meant, ran}
+use Rattle.encrypted_run.specs.Ways.{rotationsOf, rotationSum, operandsOf, wayMeaning, ran}
 use Rattle.encrypted_run.proofs.Made.{ran-known, ran-negated, ran-gate, ran-negated-gate, ran-choice}
 use Rattle.drift.specs.Words.{broughtWord, insideWord, gateWord, muxWord}
 use Rattle.drift.specs.CircuitWords.{wayWord, wayBroughtWords, allWords}
@@ -43,7 +42,7 @@ all-both (x ∷ xs) ys e =
     (ap (λ (b : Bool). cond b (allWords xs) false) (h .0) ∙ t .0, t .1)
 
 -- the choice is one of two
-picked : (va vb vc : Bool) → cond va vb vc ≡ pick va vb vc
+picked : (va vb vc : Bool) → cond va vb vc ≡ cond va vb vc
 picked true vb vc = refl
 picked false vb vc = refl
 
@@ -64,8 +63,8 @@ module _ (p : Params) (r : InRange p) (key z : List ℕ) (binary-key : binary ke
   pub way-means : (way : Way) (a b c : List ℕ) (va vb vc : Bool) (da db dc : ℕ)
       → (0 < operandsOf way → Carries a va da) → (1 < operandsOf way → Carries b vb db) → (2 < operandsOf way → Carries c vc dc)
       → allWords (wayBroughtWords p key way a b c da db dc) ≡ true
-      → Carries (ran p ksk bsk way a b c) (meant way va vb vc) (wayWord p key z ksk bsk way a b c da)
-  unfolding operandsOf meant wayWord wayBroughtWords rotationsOf rotationSum allWords
+      → Carries (ran p ksk bsk way a b c) (wayMeaning way va vb vc) (wayWord p key z ksk bsk way a b c da)
+  unfolding operandsOf wayMeaning wayWord wayBroughtWords rotationsOf rotationSum allWords
   way-means (Known bit) a b c va vb vc da db dc ea eb ec i = ap (phaseOf (p .n) key) (ran-known p ksk bsk a b c bit) ∙ constant-drift p key bit
   way-means Negated a b c va vb vc da db dc ea eb ec i =
       ap (phaseOf (p .n) key) (ran-negated p ksk bsk a b c) ∙ not-drift p key a va da (ea (lit< tt)) ∙ negated-sum (bitWord (not va)) da

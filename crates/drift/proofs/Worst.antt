@@ -9,10 +9,10 @@ use native.Mathlib.Omega.{arith}
 use borrow.Author.Tests.{lt-ltb, le-ltb}
 use lib.Dec.{ltb}
 use lib.IntN.{ℤ, pos, natAbs}
-use Rattle.gates.specs.Kind.{eighth}
 use Rattle.circuit.proofs.Accept.{lt-or-ge}
 use Rattle.drift.specs.Whole.{inside}
 use Rattle.drift.specs.Circuit.{allOf, worse, worstFrom, worstOf}
+use Rattle.ring.specs.Word.{eighth}
 
 -- of two sizes the larger tells
 larger : (m n : ℕ) → m ≤ n → cond (ltb m eighth) (ltb n eighth) false ≡ ltb n eighth

@@ -7,8 +7,7 @@ use lib.Dec.{leb, ltb}
 use lib.IntN.{ℤ, pos, negℤ, _+ℤ_, _-ℤ_, _*ℤ_}
 use Rattle.ring.specs.Word.{at}
 use Rattle.ring.specs.Turn.{source}
-use Rattle.ring.specs.Centre.{centre}
-use Rattle.gates.specs.Kind.{wordOf}
+use Rattle.ring.specs.Centre.{centre, wordOf}
 
 -- 01, Drift: 'Centred: brought modulo 2^32 into -2^31 to 2^31 - 1.'
 unfoldable pub centred : ℤ → ℤ

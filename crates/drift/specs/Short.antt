@@ -4,7 +4,7 @@ use mathlib.Core.Bool.{Bool, cond}
 use mathlib.Core.List.{List, [], _∷_, _++_}
 use Prim.Native.Nat.{ℕ, zero, suc, _+_, _%_}
 use lib.Dec.{ltb}
-use Rattle.ring.specs.Word.{Q, at, neg}
+use Rattle.ring.specs.Word.{Q, at, neg, eighth}
 use Rattle.ring.specs.Turn.{source}
 use Rattle.params.specs.declared.Params.{Params}
 use Rattle.params.specs.Sizes.{size}
@@ -12,7 +12,6 @@ use Rattle.tlwe.specs.Key.{phaseOf}
 use Rattle.tlwe.specs.Plain.{bitWord}
 use Rattle.blind_rotation.specs.Drift.{turnTo}
 use Rattle.gates.specs.declared.Kind.the-variants.{And, AndNy}
-use Rattle.gates.specs.Kind.{eighth}
 use Rattle.gates.specs.Sum.{summed}
 use Rattle.circuit.specs.Form.{inputs, kindAt, operandAt}
 use Rattle.encrypted_run.specs.declared.Way.{Way}

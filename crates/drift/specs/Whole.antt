@@ -6,26 +6,27 @@ use mathlib.Core.List.{List, [], _∷_, map}
 use Prim.Native.Nat.{ℕ, zero, suc, _+_, _*_, _-_, _/_, _^_}
 use lib.Dec.{eqb, ltb}
 use lib.IntN.{ℤ, pos, negℤ, natAbs, _+ℤ_, _-ℤ_, _*ℤ_}
-use Rattle.ring.specs.Word.{at}
+use Rattle.ring.specs.Word.{at, eighth}
 use Rattle.ring.specs.Turn.{complemented}
 use Rattle.ring.specs.Phase.{after}
 use Rattle.params.specs.declared.Params.{Params}
 use Rattle.params.specs.Sizes.{size}
 use Rattle.rotation.specs.Amount.{half, step, maskAmount, bodyAmount}
 use Rattle.key.specs.Switching.{rowPart}
-use Rattle.decomposition.specs.Digit.{weight}
-use Rattle.decomposition.specs.Pair.{Pair, pairDigit}
+use Rattle.decomposition.specs.Digit.{digitWeight}
+use Rattle.decomposition.specs.Pair.{pairDigit}
 use Rattle.trgsw.specs.External.{rowA, rowB}
 use Rattle.trgsw.specs.Errors.{lowPoly}
 use Rattle.blind_rotation.specs.Blind.{bitRows, stepsTo, startOf, testPair}
 use Rattle.blind_rotation.specs.Drift.{stepMoved}
-use Rattle.switching.specs.Switched.{rounding, fieldAt}
+use Rattle.switching.specs.Switched.{rounding, maskField}
 use Rattle.switching.specs.Drift.{dropped}
 use Rattle.gates.specs.declared.Kind.{Kind}
-use Rattle.gates.specs.Kind.{rowOf, sign, eighth}
+use Rattle.gates.specs.Kind.{rowOf, sign}
 use Rattle.gates.specs.Sum.{muxSum}
 use Rattle.gates.specs.Gate.{rotatedSample}
 use Rattle.drift.specs.Polynomials.{centred, wholeSum, wholes, signeds, wholeTimes, wholeTurn, wholePhase, wholePairPhase}
+use Rattle.ring.specs.Pair.{Pair}
 
 -- 'Inside means absolute value below 2^29.'
 unfoldable pub inside : ℤ → Bool
@@ -39,7 +40,7 @@ freshDrift p key c bit = centred (wholePhase (p .n) key c -ℤ sign bit *ℤ pos
 
 -- 'A row's error: its phase less what it should carry (-m·g_i·z or m·g_i; ..), centred.' What row r of the key bit m should carry, at place x:
 unfoldable pub shouldCarry : Params → List ℕ → ℕ → ℕ → ℕ → ℤ
-shouldCarry p z m r x = cond (ltb r (p .l)) (negℤ (pos (m * weight p r) *ℤ wholes z x)) (cond (eqb x 0) (pos (m * weight p (r - p .l))) (pos 0))
+shouldCarry p z m r x = cond (ltb r (p .l)) (negℤ (pos (m * digitWeight p r) *ℤ wholes z x)) (cond (eqb x 0) (pos (m * digitWeight p (r - p .l))) (pos 0))
 
 -- and its error there.
 unfoldable pub bootstrappingError : Params → List ℕ → List ℕ → ℕ → ℕ → ℕ → ℤ
@@ -94,7 +95,7 @@ extractedDrift p key z bsk src = rotationDrift p key z bsk src (p .n) 0 +ℤ pos
 -- 'Switching: less the errors of the rows used, less, for each 1 in z, (2^(31-BASEBIT·T) - the low bits dropped once that is added).' A field of 0 uses no row.
 unfoldable pub switchedDrift : Params → List ℕ → List ℕ → List ℕ → List ℕ → ℤ
 switchedDrift p key z ksk sample =
-    negℤ (wholeSum (size p) (λ i. wholeSum (p .t) (λ j. cond (eqb (fieldAt p sample i j) 0) (pos 0) (switchingError p key z ksk i j (fieldAt p sample i j)))))
+    negℤ (wholeSum (size p) (λ i. wholeSum (p .t) (λ j. cond (eqb (maskField p sample i j) 0) (pos 0) (switchingError p key z ksk i j (maskField p sample i j)))))
     -ℤ wholeSum (size p) (λ i. wholes z i *ℤ (pos (rounding p) -ℤ pos (dropped p (at sample i))))
 
 -- The drift of a two-input gate, 'centred at its end'.

@@ -6,7 +6,7 @@ use mathlib.Core.List.{List}
 use Prim.Native.Nat.{ℕ, _+_, _*_, _/_, _%_}
 use lib.Dec.{ltb}
 use lib.IntN.{natAbs}
-use Rattle.ring.specs.Word.{Q, at, neg}
+use Rattle.ring.specs.Word.{Q, at, neg, eighth}
 use Rattle.ring.specs.Sums.{sumTo}
 use Rattle.ring.specs.Phase.{after}
 use Rattle.ring.specs.Centre.{centre}
@@ -19,7 +19,7 @@ use Rattle.blind_rotation.specs.Blind.{testPair}
 use Rattle.blind_rotation.specs.Drift.{driftTo}
 use Rattle.switching.specs.Drift.{switchingDrift}
 use Rattle.gates.specs.declared.Kind.{Kind}
-use Rattle.gates.specs.Kind.{weightsOf, eighth}
+use Rattle.gates.specs.Kind.{weightsOf}
 use Rattle.gates.specs.Sum.{muxSum}
 use Rattle.gates.specs.Gate.{rotatedSample}
 

@@ -17,8 +17,8 @@ use Rattle.tlwe.specs.Key.{binary}
 use Rattle.circuit.specs.Form.{inputs, outputs, wires, answerOf, orElse}
 use Rattle.circuit.specs.Valid.{Valid}
 use Rattle.circuit.proofs.Accept.{accepted, not-refused, both-done}
-use Rattle.drift_run.specs.Refusals.{secretsNumber, wiresNumber, lentNumber, driftAnswer, driftGateAnswer}
-use Rattle.drift_run.specs.Private.{Secret, GateGood, RunGood}
+use Rattle.drift_run.specs.Refusals.{secretsNumber, driftWiresNumber, lentNumber, driftAnswer, driftGateAnswer}
+use Rattle.drift_run.specs.Private.{Secret, DriftGateGood, DriftRunGood}
 
 -- ---- the keys
 
@@ -63,8 +63,8 @@ secrets-done p lk ls key z k =
 
 -- ---- the wires
 
-wires-good : (p : Params) (bs : List ℕ) (lw ld : ℕ) → wiresNumber p bs lw ld ≡ 0 → (lw ≡ wires bs * (p .n + 1)) × (ld ≡ wires bs)
-unfolding wiresNumber
+wires-good : (p : Params) (bs : List ℕ) (lw ld : ℕ) → driftWiresNumber p bs lw ld ≡ 0 → (lw ≡ wires bs * (p .n + 1)) × (ld ≡ wires bs)
+unfolding driftWiresNumber
 wires-good p bs lw ld e =
     let s1 = passed _ 2 _ (lit< tt) e in
     let s2 = passed _ 2 _ (lit< tt) (s1 .1) in
@@ -73,7 +73,7 @@ wires-good p bs lw ld e =
 -- ---- the answers
 
 module _ (p : Params) (lk ls : ℕ) (key z bs : List ℕ) where
-  together : (lw ld : ℕ) → secretsNumber p lk ls key z ≡ 0 → Valid bs → wiresNumber p bs lw ld ≡ 0 → GateGood p lk ls key bs lw ld
+  together : (lw ld : ℕ) → secretsNumber p lk ls key z ≡ 0 → Valid bs → driftWiresNumber p bs lw ld ≡ 0 → DriftGateGood p lk ls key bs lw ld
   together lw ld e v f =
       let k = secrets-good p lk ls key z e in
       let w = wires-good p bs lw ld f in
@@ -83,14 +83,14 @@ module _ (p : Params) (lk ls : ℕ) (key z bs : List ℕ) where
         bootstrapping = k .bootstrapping;
       }
 
-  pub gate-good : (lw ld : ℕ) → driftGateAnswer p lk ls key z bs lw ld .number ≡ 0 → GateGood p lk ls key bs lw ld
+  pub gate-good : (lw ld : ℕ) → driftGateAnswer p lk ls key z bs lw ld .number ≡ 0 → DriftGateGood p lk ls key bs lw ld
   unfolding driftGateAnswer
   gate-good lw ld e =
-      let s1 = both-done (answer (secretsNumber p lk ls key z)) (orElse (answerOf bs) (answer (wiresNumber p bs lw ld))) e in
-      let s2 = both-done (answerOf bs) (answer (wiresNumber p bs lw ld)) (s1 .1) in
+      let s1 = both-done (answer (secretsNumber p lk ls key z)) (orElse (answerOf bs) (answer (driftWiresNumber p bs lw ld))) e in
+      let s2 = both-done (answerOf bs) (answer (driftWiresNumber p bs lw ld)) (s1 .1) in
       together lw ld (s1 .0) (accepted bs (s2 .0)) (s2 .1)
 
-  pub run-good : (li lp lw lo ld : ℕ) → driftAnswer p lk ls key z bs li lp lw lo ld .number ≡ 0 → RunGood p lk ls key bs li lp lw lo ld
+  pub run-good : (li lp lw lo ld : ℕ) → driftAnswer p lk ls key z bs li lp lw lo ld .number ≡ 0 → DriftRunGood p lk ls key bs li lp lw lo ld
   unfolding driftAnswer lentNumber
   run-good li lp lw lo ld e =
       let s1 = both-done (answer (secretsNumber p lk ls key z)) (orElse (answerOf bs) (answer (lentNumber p bs li lp lw lo ld))) e in
@@ -107,20 +107,20 @@ module _ (p : Params) (lk ls : ℕ) (key z bs : List ℕ) where
 
   -- for callers: good arguments are not refused, where the level-1 key is binary and of its length
   module _ (long : length z ≡ size p) (bits : binary z ≡ true) where
-    keys-done : (lw ld : ℕ) → GateGood p lk ls key bs lw ld → secretsNumber p lk ls key z ≡ 0
+    keys-done : (lw ld : ℕ) → DriftGateGood p lk ls key bs lw ld → secretsNumber p lk ls key z ≡ 0
     keys-done lw ld g =
         secrets-done p lk ls key z
         (record { secret = g .passing .finished .secret; switching = g .switching; bootstrapping = g .bootstrapping; long = long; bits = bits })
 
-    pub gate-done : (lw ld : ℕ) → GateGood p lk ls key bs lw ld → driftGateAnswer p lk ls key z bs lw ld ≡ answer 0
-    unfolding driftGateAnswer wiresNumber
+    pub gate-done : (lw ld : ℕ) → DriftGateGood p lk ls key bs lw ld → driftGateAnswer p lk ls key z bs lw ld ≡ answer 0
+    unfolding driftGateAnswer driftWiresNumber
     gate-done lw ld g =
         when-done (secretsNumber p lk ls key z) _ _ (keys-done lw ld g)
         ∙ when-done (answerOf bs .number) _ _ (ap (λ (a : Answer). a .number) (not-refused bs (g .passing .finished .valid)))
         ∙ rw (eq-eqb lw (wires bs * (p .n + 1)) (g .passing .finished .wires-length), eq-eqb ld (wires bs) (g .passing .drifts-length))
 
-    pub run-done : (li lp lw lo ld : ℕ) → RunGood p lk ls key bs li lp lw lo ld → driftAnswer p lk ls key z bs li lp lw lo ld ≡ answer 0
-    unfolding driftAnswer lentNumber wiresNumber
+    pub run-done : (li lp lw lo ld : ℕ) → DriftRunGood p lk ls key bs li lp lw lo ld → driftAnswer p lk ls key z bs li lp lw lo ld ≡ answer 0
+    unfolding driftAnswer lentNumber driftWiresNumber
     run-done li lp lw lo ld g =
         when-done (secretsNumber p lk ls key z) _ _ (keys-done lw ld (g .gate))
         ∙ when-done (answerOf bs .number) _ _ (ap (λ (a : Answer). a .number) (not-refused bs (g .gate .passing .finished .valid)))

@@ -12,15 +12,14 @@ use borrow.Author.Tests.{lt-ltb}
 use lib.IntN.{ℤ}
 use lib.ListN.{length, take, drop, length-append, length-drop, take-append-drop, drop-of-length-le}
 use lib.Seq.{length-take-le, take-at, drop-at, drop-drop, append-snoc}
-use Rattle.ring.specs.Centre.{centre}
+use Rattle.ring.specs.Centre.{centre, wordOf}
 use Rattle.params.specs.declared.Params.{Params}
 use Rattle.params.specs.declared.Answer.{Answer}
-use Rattle.params.specs.Refusal.{pick, answer}
+use Rattle.params.specs.Refusal.{answer}
 use Rattle.params.specs.Sizes.{size}
 use Rattle.params.proofs.Answers.{when-done}
 use Rattle.params.proofs.Ranges.{in-range}
 use Rattle.tlwe.specs.Key.{binary}
-use Rattle.gates.specs.Kind.{wordOf}
 use Rattle.circuit.specs.Form.{inputs, gates, outputs, wires}
 use Rattle.encrypted_run.specs.Run.{ciphersTo, ciphersOf, stepped}
 use Rattle.encrypted_run.proofs.Wires.{held-length, run-none, run-more, run-end}
@@ -29,8 +28,8 @@ use Rattle.drift.specs.Circuit.{gateDriftOn, gateBroughtOn, freshTo, driftsTo, 
 use Rattle.drift.proofs.Lists.{drifts-reckoned}
 use Rattle.drift.proofs.Circuits.{drifts-length}
 use Rattle.drift_run.specs.Refusals.{driftGateAnswer}
-use Rattle.drift_run.specs.Private.{GateGood}
-use Rattle.drift_run.specs.Run.{wordsOf, signedOf, runNumber, insideAfter, wiresAfter, driftsAfter, wiresBefore, driftsBefore, gateNumber, gateBrought, gateInside, gateWiresAfter, driftStepped, gateDriftsAfter}
+use Rattle.drift_run.specs.Private.{DriftGateGood}
+use Rattle.drift_run.specs.Run.{wordsOf, signedOf, driftRunNumber, insideAfter, driftWiresAfter, driftsAfter, wiresBefore, driftsBefore, driftGateNumber, gateBrought, gateInside, gateWiresAfter, driftStepped, gateDriftsAfter}
 use Rattle.drift_run.proofs.Checks.{gate-done}
 
 -- ---- the calls
@@ -67,7 +66,7 @@ all-joined (x ∷ xs) ys = ap (λ (b : Bool). cond (inside x) b false) (all-join
 
 -- ---- what they leave, where the lengths and the keys are right and the inputs' drifts stand in front
 
-module _ (p : Params) (ksk bsk key z bs ws ds plain : List ℕ) (good : GateGood p (length ksk) (length bsk) key bs (length ws) (length ds))
+module _ (p : Params) (ksk bsk key z bs ws ds plain : List ℕ) (good : DriftGateGood p (length ksk) (length bsk) key bs (length ws) (length ds))
     (long : length z ≡ size p) (bits : binary z ≡ true)
     (fresh : take (inputs bs) ds ≡ wordsOf (freshTo p key (take (inputs bs * (p .n + 1)) ws) plain (inputs bs))) where
   -- the inputs' ciphertexts, which stand in front of the wires' slice
@@ -129,7 +128,7 @@ module _ (p : Params) (ksk bsk key z bs ws ds plain : List ℕ) (good : GateGood
   then-done : (n : ℕ) → n ≤ gates bs → driftGateAnswer p (length ksk) (length bsk) key z bs (length (ciphers-then n)) (length (drifts-then n)) ≡ answer 0
   then-done n h = rw (ciphers-long n h, drifts-long n h) (gate-done p (length ksk) (length bsk) key z bs long bits (length ws) (length ds) good)
 
-  number-done : (n : ℕ) → n ≤ gates bs → gateNumber p ksk bsk key z bs (ciphers-then n) (drifts-then n) ≡ 0
+  number-done : (n : ℕ) → n ≤ gates bs → driftGateNumber p ksk bsk key z bs (ciphers-then n) (drifts-then n) ≡ 0
   number-done n h = ap (λ (a : Answer). a .number) (then-done n h)
 
   -- ---- what gate n reads
@@ -150,7 +149,7 @@ module _ (p : Params) (ksk bsk key z bs ws ds plain : List ℕ) (good : GateGood
   brought-read : (n : ℕ) → n < gates bs → gateBrought p key bs n (ciphers-then n) (drifts-then n) ≡ gateBroughtOn p key bs (cs n) (xs n) n
   unfolding gateBrought
   brought-read n l =
-      ap (λ (b : Bool). pick b (gateBroughtOn p key bs (wiresBefore p bs n (ciphers-then n)) (driftsBefore bs n (drifts-then n)) n) []) (lt-ltb n (gates bs) l)
+      ap (λ (b : Bool). cond b (gateBroughtOn p key bs (wiresBefore p bs n (ciphers-then n)) (driftsBefore bs n (drifts-then n)) n) []) (lt-ltb n (gates bs) l)
       ∙ ap₂ (λ (c : List ℕ) (d : List ℤ). gateBroughtOn p key bs c d n) (wires-read n) (drifts-read n)
 
   -- ---- what it leaves and tells
@@ -163,7 +162,7 @@ module _ (p : Params) (ksk bsk key z bs ws ds plain : List ℕ) (good : GateGood
     unfolding gateWiresAfter
     ciphers-next =
         when-done _ _ _ (number-done n so)
-        ∙ ap (λ (b : Bool). pick b (stepped p ksk bsk bs n (ciphers-then n)) (ciphers-then n)) (lt-ltb n (gates bs) l)
+        ∙ ap (λ (b : Bool). cond b (stepped p ksk bsk bs n (ciphers-then n)) (ciphers-then n)) (lt-ltb n (gates bs) l)
         ∙ run-more p ksk bsk bs ws inputs-fit n refl
         ∙ ap (λ (m : ℕ). cs m ++ drop ((inputs bs + m) * (p .n + 1)) ws) (add-one n)
 
@@ -187,7 +186,7 @@ module _ (p : Params) (ksk bsk key z bs ws ds plain : List ℕ) (good : GateGood
     unfolding gateDriftsAfter
     drifts-next =
         when-done _ _ _ (number-done n so)
-        ∙ ap (λ (b : Bool). pick b (driftStepped p ksk bsk key z bs n (ciphers-then n) (drifts-then n)) (drifts-then n)) (lt-ltb n (gates bs) l)
+        ∙ ap (λ (b : Bool). cond b (driftStepped p ksk bsk key z bs n (ciphers-then n) (drifts-then n)) (drifts-then n)) (lt-ltb n (gates bs) l)
         ∙ drift-put
 
     told-next : cond (allOf (broughtTo p key z ksk bsk bs ins plain n)) (gateInside p ksk bsk key z bs n (ciphers-then n) (drifts-then n)) false
@@ -262,8 +261,8 @@ module _ (p : Params) (ksk bsk key z bs ws ds plain : List ℕ) (good : GateGood
       (ap (λ (l : List ℕ). map centre l) (steps-run .1) ∙ drifts-back (gates bs))
 
   -- so they leave and tell what a drift run of the same inputs and plain bits leaves and tells, whatever its slices held
-  pub same-as-run : (held out drifts : List ℕ) → runNumber p ksk bsk key z bs ins plain held out drifts ≡ 0
-      → (ended .ciphers ≡ wiresAfter p ksk bsk key z bs ins plain held out drifts) × (ended .drifts ≡ driftsAfter p ksk bsk key z bs ins plain held out drifts)
+  pub same-as-run : (held out drifts : List ℕ) → driftRunNumber p ksk bsk key z bs ins plain held out drifts ≡ 0
+      → (ended .ciphers ≡ driftWiresAfter p ksk bsk key z bs ins plain held out drifts) × (ended .drifts ≡ driftsAfter p ksk bsk key z bs ins plain held out drifts)
       × (cond (ended .told) (allOf (outputDriftsTo bs (signedOf (ended .drifts)) (outputs bs))) false ≡ insideAfter p ksk bsk key z bs ins plain held out drifts)
-  unfolding wiresAfter driftsAfter insideAfter
+  unfolding driftWiresAfter driftsAfter insideAfter
   same-as-run held out drifts e = (steps-run .0 ∙ sym (when-done _ _ _ e), steps-run .1 ∙ sym (when-done _ _ _ e), inside-run ∙ sym (when-done _ _ _ e))

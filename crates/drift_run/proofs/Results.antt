@@ -14,13 +14,11 @@ use lib.IntN.{ℤ, pos}
 use lib.ListN.{length, take, drop, length-append, length-drop}
 use lib.Seq.{length-take-le}
 use Rattle.ring.specs.Word.{Q, Q-pos, at}
-use Rattle.ring.specs.Centre.{centre}
+use Rattle.ring.specs.Centre.{centre, wordOf}
 use Rattle.params.specs.declared.Params.{Params}
-use Rattle.params.specs.Refusal.{pick}
 use Rattle.params.specs.Ranges.{InRange}
 use Rattle.tlwe.specs.Key.{binary, phaseOf}
 use Rattle.tlwe.specs.Decrypt.{bitOf}
-use Rattle.gates.specs.Kind.{wordOf}
 use Rattle.circuit.specs.Form.{inputs, gates, outputs, wires}
 use Rattle.circuit.specs.Valid.{Valid}
 use Rattle.circuit.proofs.Accept.{lt-or-ge}
@@ -121,7 +119,7 @@ module _ (p : Params) (r : InRange p) (key z : List ℕ) (binary-key : binary ke
 
   -- what was told
   abbrev told : Drifted
-  told = pick (ltb g (gates bs)) (toldShort p key bs ready ds g) (drifted 0 [])
+  told = cond (ltb g (gates bs)) (toldShort p key bs ready ds g) (drifted 0 [])
 
   pub told-inside : told .inside ≡ allOf (gateBrought p key bs g ws ds)
   unfolding gateBrought allOf allWords
@@ -139,7 +137,7 @@ module _ (p : Params) (r : InRange p) (key z : List ℕ) (binary-key : binary ke
       (λ (l : gates bs ≤ g). rw (le-ltb g (gates bs) l))
       (lt-or-ge g (gates bs))
 
-  pub drifts-put : pick (ltb g (gates bs)) (putShort p key bs ready ds g) ds ≡ pick (ltb g (gates bs)) (driftStepped p ksk bsk key z bs g ws ds) ds
+  pub drifts-put : cond (ltb g (gates bs)) (putShort p key bs ready ds g) ds ≡ cond (ltb g (gates bs)) (driftStepped p ksk bsk key z bs g ws ds) ds
   unfolding putShort driftStepped
   drifts-put =
       ⊎-elim

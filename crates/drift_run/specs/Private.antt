@@ -37,14 +37,14 @@ pub record Passing (p : Params) (key bs : List ℕ) (lw ld : ℕ) : Type 0 where
   pub drifts-length : ld ≡ wires bs
 
 -- What holds of one gate of a drift run that is not refused.
-pub record GateGood (p : Params) (lk ls : ℕ) (key bs : List ℕ) (lw ld : ℕ) : Type 0 where
+pub record DriftGateGood (p : Params) (lk ls : ℕ) (key bs : List ℕ) (lw ld : ℕ) : Type 0 where
   pub passing : Passing p key bs lw ld
   pub switching : lk ≡ switchingWords p
   pub bootstrapping : ls ≡ bootstrappingWords p
 
 -- What holds of a drift run that is not refused.
-pub record RunGood (p : Params) (lk ls : ℕ) (key bs : List ℕ) (li lp lw lo ld : ℕ) : Type 0 where
-  pub gate : GateGood p lk ls key bs lw ld
+pub record DriftRunGood (p : Params) (lk ls : ℕ) (key bs : List ℕ) (li lp lw lo ld : ℕ) : Type 0 where
+  pub gate : DriftGateGood p lk ls key bs lw ld
   pub ins-length : li ≡ inputs bs * (p .n + 1)
   pub plain-length : lp ≡ inputs bs
   pub outs-length : lo ≡ outputs bs * (p .n + 1)

@@ -24,8 +24,8 @@ secretsNumber p lk ls key z =
     0))))))
 
 -- A ciphertext and a drift for each wire.
-unfoldable pub wiresNumber : Params → List ℕ → ℕ → ℕ → ℕ
-wiresNumber p bs lw ld = check (eqb lw (wires bs * (p .n + 1))) 2 (check (eqb ld (wires bs)) 2 0)
+unfoldable pub driftWiresNumber : Params → List ℕ → ℕ → ℕ → ℕ
+driftWiresNumber p bs lw ld = check (eqb lw (wires bs * (p .n + 1))) 2 (check (eqb ld (wires bs)) 2 0)
 
 -- A ciphertext and a plain bit for each input, a ciphertext for each output, and the wires'.
 unfoldable pub lentNumber : Params → List ℕ → ℕ → ℕ → ℕ → ℕ → ℕ → ℕ
@@ -33,7 +33,7 @@ lentNumber p bs li lp lw lo ld =
     check (eqb li (inputs bs * (p .n + 1))) 2
     (check (eqb lp (inputs bs)) 2
     (check (eqb lo (outputs bs * (p .n + 1))) 2
-    (wiresNumber p bs lw ld)))
+    (driftWiresNumber p bs lw ld)))
 
 -- The answer of a drift run.
 unfoldable pub driftAnswer : Params → ℕ → ℕ → List ℕ → List ℕ → List ℕ → ℕ → ℕ → ℕ → ℕ → ℕ → Answer
@@ -41,4 +41,4 @@ driftAnswer p lk ls key z bs li lp lw lo ld = orElse (answer (secretsNumber p lk
 
 -- The answer of one gate of it.
 unfoldable pub driftGateAnswer : Params → ℕ → ℕ → List ℕ → List ℕ → List ℕ → ℕ → ℕ → Answer
-driftGateAnswer p lk ls key z bs lw ld = orElse (answer (secretsNumber p lk ls key z)) (orElse (answerOf bs) (answer (wiresNumber p bs lw ld)))
+driftGateAnswer p lk ls key z bs lw ld = orElse (answer (secretsNumber p lk ls key z)) (orElse (answerOf bs) (answer (driftWiresNumber p bs lw ld)))

@@ -6,16 +6,14 @@ ghost use Prim.Native.Nat.{_+_, _*_, _≤_, _<_};
 ghost use lib.Dec.{ltb};
 ghost use lib.ListN.{length, take, drop};
 ghost use Rattle.ring.specs.Word.{at};
-ghost use Rattle.params.specs.Refusal.{pick};
 ghost use Rattle.circuit.specs.Form.{inputs, gates, outputs};
-ghost use Rattle.circuit.specs.Plain.{truth};
 ghost use Rattle.circuit.specs.Valid.{Valid};
 ghost use Rattle.encrypted_run.specs.Refusals.{Within};
 ghost use Rattle.encrypted_run.specs.Run.{cipherAt, ciphersOf, outputCiphers, stepped};
 ghost use Rattle.drift.specs.Words.{freshWord};
 ghost use Rattle.drift.specs.CircuitWords.{gateBroughtWords, freshWords, allWords, outputWords};
 ghost use Rattle.drift.specs.Short.{shortGate, shortTo, shortBroughtTo};
-ghost use Rattle.drift_run.specs.Private.{Secret, Finished, Passing, GateGood, RunGood, drifted, putShort, toldShort, shortDrifts, shortInside};
+ghost use Rattle.drift_run.specs.Private.{Secret, Finished, Passing, DriftGateGood, DriftRunGood, drifted, putShort, toldShort, shortDrifts, shortInside};
 use crate::turns::bit_word;
 use crate::turns::phase;
 use crate::ways::Drifted;
@@ -23,6 +21,7 @@ use crate::ways::both;
 use crate::ways::way_drift;
 use crate::ways::word_inside;
 use params::Params;
+ghost use Rattle.ring.specs.Bit.{truth};
 
 // The ciphertext of wire w.
 fn wire(p: Params, wires: &[u32], w: usize) -> &[u32]
@@ -185,7 +184,7 @@ pub(crate) fn run_into(
     out: &mut [u32],
     drifts: &mut [u32],
 ) -> bool
-    requires { ⌜ RunGood p (length (now ksk)) (length (now bsk)) (now key) (now bytes) (length (now ins)) (length (now plain)) (length (now wires)) (length (now out)) (length (now drifts)) ⌝ }
+    requires { ⌜ DriftRunGood p (length (now ksk)) (length (now bsk)) (now key) (now bytes) (length (now ins)) (length (now plain)) (length (now wires)) (length (now out)) (length (now drifts)) ⌝ }
     ensures told { λ r. ⌜ r ≡ shortInside p (now (key .entry)) (now (bytes .entry)) (now (ins .entry)) (now (plain .entry)) (ciphersOf p (now (ksk .entry)) (now (bsk .entry)) (now (bytes .entry)) (now (ins .entry))) ⌝ }
     ensures held { λ r. ⌜ now (wires .exit) ≡ ciphersOf p (now (ksk .entry)) (now (bsk .entry)) (now (bytes .entry)) (now (ins .entry)) ⌝ }
     ensures written { λ r. ⌜ now (out .exit) ≡ outputCiphers p (now (bytes .entry)) (ciphersOf p (now (ksk .entry)) (now (bsk .entry)) (now (bytes .entry)) (now (ins .entry))) ⌝ }
@@ -206,7 +205,7 @@ fn one(
     wires: &mut [u32],
     drifts: &mut [u32],
 ) -> Drifted
-    requires { ⌜ GateGood p (length (now ksk)) (length (now bsk)) (now key) (now bytes) (length (now wires)) (length (now drifts)) × (g < gates (now bytes)) ⌝ }
+    requires { ⌜ DriftGateGood p (length (now ksk)) (length (now bsk)) (now key) (now bytes) (length (now wires)) (length (now drifts)) × (g < gates (now bytes)) ⌝ }
     ensures told { λ r. ⌜ r ≡ toldShort p (now (key .entry)) (now (bytes .entry)) (stepped p (now (ksk .entry)) (now (bsk .entry)) (now (bytes .entry)) g (now (wires .entry))) (now (drifts .entry)) g ⌝ }
     ensures held { λ r. ⌜ now (wires .exit) ≡ stepped p (now (ksk .entry)) (now (bsk .entry)) (now (bytes .entry)) g (now (wires .entry)) ⌝ }
     ensures written { λ r. ⌜ now (drifts .exit) ≡ putShort p (now (key .entry)) (now (bytes .entry)) (stepped p (now (ksk .entry)) (now (bsk .entry)) (now (bytes .entry)) g (now (wires .entry))) (now (drifts .entry)) g ⌝ }
@@ -226,10 +225,10 @@ pub(crate) fn one_or_none(
     wires: &mut [u32],
     drifts: &mut [u32],
 ) -> Drifted
-    requires { ⌜ GateGood p (length (now ksk)) (length (now bsk)) (now key) (now bytes) (length (now wires)) (length (now drifts)) ⌝ }
-    ensures told { λ r. ⌜ r ≡ pick (ltb g (gates (now (bytes .entry)))) (toldShort p (now (key .entry)) (now (bytes .entry)) (stepped p (now (ksk .entry)) (now (bsk .entry)) (now (bytes .entry)) g (now (wires .entry))) (now (drifts .entry)) g) (drifted 0 []) ⌝ }
-    ensures held { λ r. ⌜ now (wires .exit) ≡ pick (ltb g (gates (now (bytes .entry)))) (stepped p (now (ksk .entry)) (now (bsk .entry)) (now (bytes .entry)) g (now (wires .entry))) (now (wires .entry)) ⌝ }
-    ensures written { λ r. ⌜ now (drifts .exit) ≡ pick (ltb g (gates (now (bytes .entry)))) (putShort p (now (key .entry)) (now (bytes .entry)) (stepped p (now (ksk .entry)) (now (bsk .entry)) (now (bytes .entry)) g (now (wires .entry))) (now (drifts .entry)) g) (now (drifts .entry)) ⌝ }
+    requires { ⌜ DriftGateGood p (length (now ksk)) (length (now bsk)) (now key) (now bytes) (length (now wires)) (length (now drifts)) ⌝ }
+    ensures told { λ r. ⌜ r ≡ cond (ltb g (gates (now (bytes .entry)))) (toldShort p (now (key .entry)) (now (bytes .entry)) (stepped p (now (ksk .entry)) (now (bsk .entry)) (now (bytes .entry)) g (now (wires .entry))) (now (drifts .entry)) g) (drifted 0 []) ⌝ }
+    ensures held { λ r. ⌜ now (wires .exit) ≡ cond (ltb g (gates (now (bytes .entry)))) (stepped p (now (ksk .entry)) (now (bsk .entry)) (now (bytes .entry)) g (now (wires .entry))) (now (wires .entry)) ⌝ }
+    ensures written { λ r. ⌜ now (drifts .exit) ≡ cond (ltb g (gates (now (bytes .entry)))) (putShort p (now (key .entry)) (now (bytes .entry)) (stepped p (now (ksk .entry)) (now (bsk .entry)) (now (bytes .entry)) g (now (wires .entry))) (now (drifts .entry)) g) (now (drifts .entry)) ⌝ }
 {
     let shape = circuit::counts(bytes);
     if g < shape.gates {

@@ -11,7 +11,7 @@ ghost use Rattle.tlwe.specs.Key.{keyedNumber};
 ghost use Rattle.ring.specs.Centre.{centre};
 ghost use Rattle.drift.specs.Whole.{inside};
 ghost use Rattle.drift_run.specs.Refusals.{driftAnswer, driftGateAnswer};
-ghost use Rattle.drift_run.specs.Run.{Decrypts, freshValue, insideAfter, wiresAfter, outputsAfter, driftsAfter, gateInside, gateWorst, gateWiresAfter, gateDriftsAfter};
+ghost use Rattle.drift_run.specs.Run.{Decrypts, freshValue, insideAfter, driftWiresAfter, driftOutputsAfter, driftsAfter, gateInside, gateWorst, gateWiresAfter, gateDriftsAfter};
 use params::Answer;
 use params::Params;
 use tlwe::Level;
@@ -130,8 +130,8 @@ pub fn drift_run(
 ) -> RunTold
     ensures said { λ r. ⌜ r .answer ≡ driftAnswer p (length (now (ksk .entry))) (length (now (bsk .entry))) (now (key .entry)) (now (z .entry)) (now (bytes .entry)) (length (now (ins .entry))) (length (now (plain .entry))) (length (now (wires .entry))) (length (now (out .entry))) (length (now (drifts .entry))) ⌝ }
     ensures told { λ r. ⌜ r .inside ≡ insideAfter p (now (ksk .entry)) (now (bsk .entry)) (now (key .entry)) (now (z .entry)) (now (bytes .entry)) (now (ins .entry)) (now (plain .entry)) (now (wires .entry)) (now (out .entry)) (now (drifts .entry)) ⌝ }
-    ensures held { λ r. ⌜ now (wires .exit) ≡ wiresAfter p (now (ksk .entry)) (now (bsk .entry)) (now (key .entry)) (now (z .entry)) (now (bytes .entry)) (now (ins .entry)) (now (plain .entry)) (now (wires .entry)) (now (out .entry)) (now (drifts .entry)) ⌝ }
-    ensures written { λ r. ⌜ now (out .exit) ≡ outputsAfter p (now (ksk .entry)) (now (bsk .entry)) (now (key .entry)) (now (z .entry)) (now (bytes .entry)) (now (ins .entry)) (now (plain .entry)) (now (wires .entry)) (now (out .entry)) (now (drifts .entry)) ⌝ }
+    ensures held { λ r. ⌜ now (wires .exit) ≡ driftWiresAfter p (now (ksk .entry)) (now (bsk .entry)) (now (key .entry)) (now (z .entry)) (now (bytes .entry)) (now (ins .entry)) (now (plain .entry)) (now (wires .entry)) (now (out .entry)) (now (drifts .entry)) ⌝ }
+    ensures written { λ r. ⌜ now (out .exit) ≡ driftOutputsAfter p (now (ksk .entry)) (now (bsk .entry)) (now (key .entry)) (now (z .entry)) (now (bytes .entry)) (now (ins .entry)) (now (plain .entry)) (now (wires .entry)) (now (out .entry)) (now (drifts .entry)) ⌝ }
     ensures drifted { λ r. ⌜ now (drifts .exit) ≡ driftsAfter p (now (ksk .entry)) (now (bsk .entry)) (now (key .entry)) (now (z .entry)) (now (bytes .entry)) (now (ins .entry)) (now (plain .entry)) (now (wires .entry)) (now (out .entry)) (now (drifts .entry)) ⌝ }
     ensures right { λ r. ⌜ (r .inside ≡ true → (o : ℕ) → o < outputs (now (bytes .entry)) → Decrypts p (now (key .entry)) (now (bytes .entry)) (now (plain .entry)) (now (out .exit)) o) ⌝ }
 {

@@ -2,7 +2,7 @@
 ghost use mathlib.Core.Path.{_≡_};
 ghost use Rattle.params.specs.Ranges.{paramsNumber};
 ghost use Rattle.circuit.specs.Valid.{Valid};
-ghost use Rattle.drift_run.specs.Refusals.{secretsNumber, wiresNumber, lentNumber, driftAnswer, driftGateAnswer};
+ghost use Rattle.drift_run.specs.Refusals.{secretsNumber, driftWiresNumber, lentNumber, driftAnswer, driftGateAnswer};
 use params::Answer;
 use params::Params;
 
@@ -35,7 +35,7 @@ fn secrets_number(p: Params, lk: usize, ls: usize, key: &[u32], z: &[u32]) -> u3
 // The lengths of the wires' ciphertexts and drifts.
 fn wires_number(p: Params, bytes: &[u8], lw: usize, ld: usize) -> u32
     requires { ⌜ (paramsNumber p ≡ 0) × Valid (now bytes) ⌝ }
-    ensures { λ r. ⌜ r ≡ wiresNumber p (now (bytes .entry)) lw ld ⌝ }
+    ensures { λ r. ⌜ r ≡ driftWiresNumber p (now (bytes .entry)) lw ld ⌝ }
 {
     let shape = circuit::counts(bytes);
     let wires = shape.inputs + shape.gates;

@@ -4,14 +4,14 @@ use mathlib.Core.Path.{_≡_, refl}
 use mathlib.Core.List.{List, [], _∷_}
 use Prim.Native.Nat.{ℕ}
 use lib.IntN.{ℤ, pos, negsuc}
-use Rattle.ring.specs.Word.{Q, neg, comp}
+use Rattle.ring.specs.Word.{Q, neg, comp, fieldOf}
 use Rattle.ring.specs.Sums.{sumTo, tab}
 use Rattle.ring.specs.Turn.{source, rotated}
 use Rattle.ring.specs.Phase.{extract}
 use Rattle.ring.specs.Centre.{H, centre}
 use Rattle.params.specs.Published.{security128}
 use Rattle.key.specs.Offset.{offset}
-use Rattle.decomposition.specs.Digit.{fieldOf, digitOf}
+use Rattle.decomposition.specs.Digit.{digitOf}
 use Rattle.trlwe.specs.Extract.{extracted}
 use Rattle.rotation.specs.Amount.{half, step, bodyAmount}
 

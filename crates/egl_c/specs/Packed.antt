@@ -6,6 +6,8 @@ use Rattle.ring.specs.Word.{Q}
 use Rattle.params.specs.declared.Params.{Params}
 use Rattle.params.specs.declared.Answer.{Answer}
 use Rattle.params.specs.Refusal.{ifDone}
+use Rattle.ring.specs.Bit.{bitNumber, truth}
+use Rattle.params.specs.Published.{numbers}
 
 -- The number in the low half, the place in the high half.
 unfoldable pub packed : Answer → ℕ
@@ -18,19 +20,6 @@ packedWith a value = a .number + value * Q
 -- The value beside an answer that is done, and the place beside a refusal.
 abbrev pub packedTold : Answer → ℕ → ℕ
 packedTold a value = ifDone (a .number) (packedWith a value) (packed a)
-
--- The six numbers, in the order in which every exported function takes them.
-abbrev pub params : ℕ → ℕ → ℕ → ℕ → ℕ → ℕ → Params
-params n nbit bgbit l basebit t = record { n = n; nbit = nbit; bgbit = bgbit; l = l; basebit = basebit; t = t }
-
--- A bit as C gets it: 0 or 1.
-abbrev pub bitNumber : Bool → ℕ
-bitNumber true = 1
-bitNumber false = 0
-
--- A bit as C gives it: 0 is false, any other number true.
-abbrev pub isBit : ℕ → Bool
-isBit x = not (eqb x 0)
 
 -- The version of the interface: one more with each release in which a function of it is added, taken away or changed.
 abbrev pub interfaceVersion : ℕ

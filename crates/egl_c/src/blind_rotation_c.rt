@@ -3,10 +3,11 @@ ghost use mathlib.Core.Path.{_≡_};
 ghost use lib.ListN.{length};
 ghost use Rattle.params.specs.Refusal.{answer};
 ghost use Rattle.blind_rotation.specs.Refusals.{stepNumber, stepOut, blindNumber, blindOut};
-ghost use Rattle.egl_c.specs.Packed.{packed, params};
+ghost use Rattle.egl_c.specs.Packed.{packed};
 use super::pack;
 use params::Params;
 use utils::Torus;
+ghost use Rattle.params.specs.Published.{numbers};
 
 // Step i of the blind rotation, i below n, by the ciphertext's mask i: what it makes of the accumulator (a, b). Refusals: 1, 2, 3.
 #[no_mangle]
@@ -23,9 +24,9 @@ pub extern "C" fn egl_trgsw_blind_rotate_step(
     a: &mut [u32],
     b: &mut [u32],
 ) -> u64
-    ensures said { λ r. ⌜ r ≡ packed (answer (stepNumber (params n nbit bgbit l basebit t) (length (now (key .entry))) i (length (now (a .entry))) (length (now (b .entry))))) ⌝ }
-    ensures first { λ r. ⌜ now (a .exit) ≡ stepOut (params n nbit bgbit l basebit t) (now (key .entry)) i mask (record { a = now (a .entry); b = now (b .entry) }) .a ⌝ }
-    ensures second { λ r. ⌜ now (b .exit) ≡ stepOut (params n nbit bgbit l basebit t) (now (key .entry)) i mask (record { a = now (a .entry); b = now (b .entry) }) .b ⌝ }
+    ensures said { λ r. ⌜ r ≡ packed (answer (stepNumber (numbers n nbit bgbit l basebit t) (length (now (key .entry))) i (length (now (a .entry))) (length (now (b .entry))))) ⌝ }
+    ensures first { λ r. ⌜ now (a .exit) ≡ stepOut (numbers n nbit bgbit l basebit t) (now (key .entry)) i mask (record { a = now (a .entry); b = now (b .entry) }) .a ⌝ }
+    ensures second { λ r. ⌜ now (b .exit) ≡ stepOut (numbers n nbit bgbit l basebit t) (now (key .entry)) i mask (record { a = now (a .entry); b = now (b .entry) }) .b ⌝ }
 {
     pack(blind_rotation::blind_rotate_step(
         Params {
@@ -58,9 +59,9 @@ pub extern "C" fn egl_trgsw_blind_rotate(
     a: &mut [u32],
     b: &mut [u32],
 ) -> u64
-    ensures said { λ r. ⌜ r ≡ packed (answer (blindNumber (params n nbit bgbit l basebit t) (length (now (src .entry))) (length (now (key .entry))) (length (now (a .entry))) (length (now (b .entry))))) ⌝ }
-    ensures first { λ r. ⌜ now (a .exit) ≡ blindOut (params n nbit bgbit l basebit t) (now (src .entry)) (now (key .entry)) (record { a = now (a .entry); b = now (b .entry) }) .a ⌝ }
-    ensures second { λ r. ⌜ now (b .exit) ≡ blindOut (params n nbit bgbit l basebit t) (now (src .entry)) (now (key .entry)) (record { a = now (a .entry); b = now (b .entry) }) .b ⌝ }
+    ensures said { λ r. ⌜ r ≡ packed (answer (blindNumber (numbers n nbit bgbit l basebit t) (length (now (src .entry))) (length (now (key .entry))) (length (now (a .entry))) (length (now (b .entry))))) ⌝ }
+    ensures first { λ r. ⌜ now (a .exit) ≡ blindOut (numbers n nbit bgbit l basebit t) (now (src .entry)) (now (key .entry)) (record { a = now (a .entry); b = now (b .entry) }) .a ⌝ }
+    ensures second { λ r. ⌜ now (b .exit) ≡ blindOut (numbers n nbit bgbit l basebit t) (now (src .entry)) (now (key .entry)) (record { a = now (a .entry); b = now (b .entry) }) .b ⌝ }
 {
     pack(blind_rotation::blind_rotate(
         Params {

@@ -4,10 +4,11 @@ ghost use lib.ListN.{length};
 ghost use Rattle.params.specs.Refusal.{answer, ifDone};
 ghost use Rattle.bootstrapping.specs.Rows.{torusRows, bootstrappingKey};
 ghost use Rattle.bootstrapping.specs.Refusals.{torusNumber, bootstrappingNumber};
-ghost use Rattle.egl_c.specs.Packed.{packed, params};
+ghost use Rattle.egl_c.specs.Packed.{packed};
 use super::pack;
 use params::Params;
 use utils::Torus;
+ghost use Rattle.params.specs.Published.{numbers};
 
 // `encrypt_torus` with lent masks and noise: 2L rows of 2N words, each a then b, encryptions of zero to which m times the gadget is added.
 // Refusals: 1, 2, 4.
@@ -25,8 +26,8 @@ pub extern "C" fn egl_trgsw_encrypt_torus(
     key_lv1: &[u32],
     out: &mut [u32],
 ) -> u64
-    ensures said { λ r. ⌜ r ≡ packed (answer (torusNumber (params n nbit bgbit l basebit t) (length (now (masks .entry))) (length (now (noise .entry))) (now («key_lv1» .entry)) (length (now (out .entry))))) ⌝ }
-    ensures written { λ r. ⌜ now (out .exit) ≡ ifDone (torusNumber (params n nbit bgbit l basebit t) (length (now (masks .entry))) (length (now (noise .entry))) (now («key_lv1» .entry)) (length (now (out .entry)))) (torusRows (params n nbit bgbit l basebit t) m (now («key_lv1» .entry)) (now (masks .entry)) (now (noise .entry))) (now (out .entry)) ⌝ }
+    ensures said { λ r. ⌜ r ≡ packed (answer (torusNumber (numbers n nbit bgbit l basebit t) (length (now (masks .entry))) (length (now (noise .entry))) (now («key_lv1» .entry)) (length (now (out .entry))))) ⌝ }
+    ensures written { λ r. ⌜ now (out .exit) ≡ ifDone (torusNumber (numbers n nbit bgbit l basebit t) (length (now (masks .entry))) (length (now (noise .entry))) (now («key_lv1» .entry)) (length (now (out .entry)))) (torusRows (numbers n nbit bgbit l basebit t) m (now («key_lv1» .entry)) (now (masks .entry)) (now (noise .entry))) (now (out .entry)) ⌝ }
 {
     pack(bootstrapping::encrypt_torus(
         Params {
@@ -60,8 +61,8 @@ pub extern "C" fn egl_trgsw_gen_bootstrapping_key(
     noise: &[u32],
     out: &mut [u32],
 ) -> u64
-    ensures said { λ r. ⌜ r ≡ packed (answer (bootstrappingNumber (params n nbit bgbit l basebit t) (now («key_lv0» .entry)) (now («key_lv1» .entry)) (length (now (masks .entry))) (length (now (noise .entry))) (length (now (out .entry))))) ⌝ }
-    ensures written { λ r. ⌜ now (out .exit) ≡ ifDone (bootstrappingNumber (params n nbit bgbit l basebit t) (now («key_lv0» .entry)) (now («key_lv1» .entry)) (length (now (masks .entry))) (length (now (noise .entry))) (length (now (out .entry)))) (bootstrappingKey (params n nbit bgbit l basebit t) (now («key_lv0» .entry)) (now («key_lv1» .entry)) (now (masks .entry)) (now (noise .entry))) (now (out .entry)) ⌝ }
+    ensures said { λ r. ⌜ r ≡ packed (answer (bootstrappingNumber (numbers n nbit bgbit l basebit t) (now («key_lv0» .entry)) (now («key_lv1» .entry)) (length (now (masks .entry))) (length (now (noise .entry))) (length (now (out .entry))))) ⌝ }
+    ensures written { λ r. ⌜ now (out .exit) ≡ ifDone (bootstrappingNumber (numbers n nbit bgbit l basebit t) (now («key_lv0» .entry)) (now («key_lv1» .entry)) (length (now (masks .entry))) (length (now (noise .entry))) (length (now (out .entry)))) (bootstrappingKey (numbers n nbit bgbit l basebit t) (now («key_lv0» .entry)) (now («key_lv1» .entry)) (now (masks .entry)) (now (noise .entry))) (now (out .entry)) ⌝ }
 {
     pack(bootstrapping::gen_bootstrapping_key(
         Params {

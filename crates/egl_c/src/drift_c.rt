@@ -10,13 +10,15 @@ ghost use Rattle.tlwe.specs.Key.{keyedNumber};
 ghost use Rattle.circuit.specs.Form.{outputs};
 ghost use Rattle.drift.specs.Whole.{inside};
 ghost use Rattle.drift_run.specs.Refusals.{driftAnswer, driftGateAnswer};
-ghost use Rattle.drift_run.specs.Run.{Decrypts, freshValue, insideAfter, wiresAfter, outputsAfter, driftsAfter, gateWorst, gateWiresAfter, gateDriftsAfter};
-ghost use Rattle.egl_c.specs.Packed.{packedWith, packedTold, params, bitNumber, isBit};
+ghost use Rattle.drift_run.specs.Run.{Decrypts, freshValue, insideAfter, driftWiresAfter, driftOutputsAfter, driftsAfter, gateWorst, gateWiresAfter, gateDriftsAfter};
+ghost use Rattle.egl_c.specs.Packed.{packedWith, packedTold};
 use super::bit_number;
 use super::pack_told;
 use super::pack_with;
 use params::Params;
 use utils::Torus;
+ghost use Rattle.params.specs.Published.{numbers};
+ghost use Rattle.ring.specs.Bit.{bitNumber, truth};
 
 // 1 where a drift is inside, else 0.
 #[no_mangle]
@@ -39,7 +41,7 @@ pub extern "C" fn egl_fresh_drift(
     c: &[u32],
     bit: u8,
 ) -> u64
-    ensures { λ r. ⌜ r ≡ packedWith (answer (keyedNumber (params n nbit bgbit l basebit t) Zero (length (now (c .entry))) (now (key .entry)) 0)) (freshValue (params n nbit bgbit l basebit t) (now (key .entry)) (now (c .entry)) (isBit bit)) ⌝ }
+    ensures { λ r. ⌜ r ≡ packedWith (answer (keyedNumber (numbers n nbit bgbit l basebit t) Zero (length (now (c .entry))) (now (key .entry)) 0)) (freshValue (numbers n nbit bgbit l basebit t) (now (key .entry)) (now (c .entry)) (truth bit)) ⌝ }
 {
     let told = drift_run::fresh_drift(
         Params {
@@ -77,9 +79,9 @@ pub extern "C" fn egl_drift_gate(
     wires: &mut [u32],
     drifts: &mut [u32],
 ) -> u64
-    ensures said { λ r. ⌜ r ≡ packedTold (driftGateAnswer (params n nbit bgbit l basebit t) (length (now (ksk .entry))) (length (now (bsk .entry))) (now (key .entry)) (now (z .entry)) (now (bytes .entry)) (length (now (wires .entry))) (length (now (drifts .entry)))) (gateWorst (params n nbit bgbit l basebit t) (now (ksk .entry)) (now (bsk .entry)) (now (key .entry)) (now (z .entry)) (now (bytes .entry)) g (now (wires .entry)) (now (drifts .entry))) ⌝ }
-    ensures held { λ r. ⌜ now (wires .exit) ≡ gateWiresAfter (params n nbit bgbit l basebit t) (now (ksk .entry)) (now (bsk .entry)) (now (key .entry)) (now (z .entry)) (now (bytes .entry)) g (now (wires .entry)) (now (drifts .entry)) ⌝ }
-    ensures written { λ r. ⌜ now (drifts .exit) ≡ gateDriftsAfter (params n nbit bgbit l basebit t) (now (ksk .entry)) (now (bsk .entry)) (now (key .entry)) (now (z .entry)) (now (bytes .entry)) g (now (wires .entry)) (now (drifts .entry)) ⌝ }
+    ensures said { λ r. ⌜ r ≡ packedTold (driftGateAnswer (numbers n nbit bgbit l basebit t) (length (now (ksk .entry))) (length (now (bsk .entry))) (now (key .entry)) (now (z .entry)) (now (bytes .entry)) (length (now (wires .entry))) (length (now (drifts .entry)))) (gateWorst (numbers n nbit bgbit l basebit t) (now (ksk .entry)) (now (bsk .entry)) (now (key .entry)) (now (z .entry)) (now (bytes .entry)) g (now (wires .entry)) (now (drifts .entry))) ⌝ }
+    ensures held { λ r. ⌜ now (wires .exit) ≡ gateWiresAfter (numbers n nbit bgbit l basebit t) (now (ksk .entry)) (now (bsk .entry)) (now (key .entry)) (now (z .entry)) (now (bytes .entry)) g (now (wires .entry)) (now (drifts .entry)) ⌝ }
+    ensures written { λ r. ⌜ now (drifts .exit) ≡ gateDriftsAfter (numbers n nbit bgbit l basebit t) (now (ksk .entry)) (now (bsk .entry)) (now (key .entry)) (now (z .entry)) (now (bytes .entry)) g (now (wires .entry)) (now (drifts .entry)) ⌝ }
 {
     let told = drift_run::drift_gate(
         Params {
@@ -124,11 +126,11 @@ pub extern "C" fn egl_drift_run(
     out: &mut [u32],
     drifts: &mut [u32],
 ) -> u64
-    ensures said { λ r. ⌜ r ≡ packedTold (driftAnswer (params n nbit bgbit l basebit t) (length (now (ksk .entry))) (length (now (bsk .entry))) (now (key .entry)) (now (z .entry)) (now (bytes .entry)) (length (now (ins .entry))) (length (now (plain .entry))) (length (now (wires .entry))) (length (now (out .entry))) (length (now (drifts .entry)))) (bitNumber (insideAfter (params n nbit bgbit l basebit t) (now (ksk .entry)) (now (bsk .entry)) (now (key .entry)) (now (z .entry)) (now (bytes .entry)) (now (ins .entry)) (now (plain .entry)) (now (wires .entry)) (now (out .entry)) (now (drifts .entry)))) ⌝ }
-    ensures held { λ r. ⌜ now (wires .exit) ≡ wiresAfter (params n nbit bgbit l basebit t) (now (ksk .entry)) (now (bsk .entry)) (now (key .entry)) (now (z .entry)) (now (bytes .entry)) (now (ins .entry)) (now (plain .entry)) (now (wires .entry)) (now (out .entry)) (now (drifts .entry)) ⌝ }
-    ensures written { λ r. ⌜ now (out .exit) ≡ outputsAfter (params n nbit bgbit l basebit t) (now (ksk .entry)) (now (bsk .entry)) (now (key .entry)) (now (z .entry)) (now (bytes .entry)) (now (ins .entry)) (now (plain .entry)) (now (wires .entry)) (now (out .entry)) (now (drifts .entry)) ⌝ }
-    ensures drifted { λ r. ⌜ now (drifts .exit) ≡ driftsAfter (params n nbit bgbit l basebit t) (now (ksk .entry)) (now (bsk .entry)) (now (key .entry)) (now (z .entry)) (now (bytes .entry)) (now (ins .entry)) (now (plain .entry)) (now (wires .entry)) (now (out .entry)) (now (drifts .entry)) ⌝ }
-    ensures right { λ r. ⌜ (insideAfter (params n nbit bgbit l basebit t) (now (ksk .entry)) (now (bsk .entry)) (now (key .entry)) (now (z .entry)) (now (bytes .entry)) (now (ins .entry)) (now (plain .entry)) (now (wires .entry)) (now (out .entry)) (now (drifts .entry)) ≡ true → (o : ℕ) → o < outputs (now (bytes .entry)) → Decrypts (params n nbit bgbit l basebit t) (now (key .entry)) (now (bytes .entry)) (now (plain .entry)) (now (out .exit)) o) ⌝ }
+    ensures said { λ r. ⌜ r ≡ packedTold (driftAnswer (numbers n nbit bgbit l basebit t) (length (now (ksk .entry))) (length (now (bsk .entry))) (now (key .entry)) (now (z .entry)) (now (bytes .entry)) (length (now (ins .entry))) (length (now (plain .entry))) (length (now (wires .entry))) (length (now (out .entry))) (length (now (drifts .entry)))) (bitNumber (insideAfter (numbers n nbit bgbit l basebit t) (now (ksk .entry)) (now (bsk .entry)) (now (key .entry)) (now (z .entry)) (now (bytes .entry)) (now (ins .entry)) (now (plain .entry)) (now (wires .entry)) (now (out .entry)) (now (drifts .entry)))) ⌝ }
+    ensures held { λ r. ⌜ now (wires .exit) ≡ driftWiresAfter (numbers n nbit bgbit l basebit t) (now (ksk .entry)) (now (bsk .entry)) (now (key .entry)) (now (z .entry)) (now (bytes .entry)) (now (ins .entry)) (now (plain .entry)) (now (wires .entry)) (now (out .entry)) (now (drifts .entry)) ⌝ }
+    ensures written { λ r. ⌜ now (out .exit) ≡ driftOutputsAfter (numbers n nbit bgbit l basebit t) (now (ksk .entry)) (now (bsk .entry)) (now (key .entry)) (now (z .entry)) (now (bytes .entry)) (now (ins .entry)) (now (plain .entry)) (now (wires .entry)) (now (out .entry)) (now (drifts .entry)) ⌝ }
+    ensures drifted { λ r. ⌜ now (drifts .exit) ≡ driftsAfter (numbers n nbit bgbit l basebit t) (now (ksk .entry)) (now (bsk .entry)) (now (key .entry)) (now (z .entry)) (now (bytes .entry)) (now (ins .entry)) (now (plain .entry)) (now (wires .entry)) (now (out .entry)) (now (drifts .entry)) ⌝ }
+    ensures right { λ r. ⌜ (insideAfter (numbers n nbit bgbit l basebit t) (now (ksk .entry)) (now (bsk .entry)) (now (key .entry)) (now (z .entry)) (now (bytes .entry)) (now (ins .entry)) (now (plain .entry)) (now (wires .entry)) (now (out .entry)) (now (drifts .entry)) ≡ true → (o : ℕ) → o < outputs (now (bytes .entry)) → Decrypts (numbers n nbit bgbit l basebit t) (now (key .entry)) (now (bytes .entry)) (now (plain .entry)) (now (out .exit)) o) ⌝ }
 {
     let told = drift_run::drift_run(
         Params {

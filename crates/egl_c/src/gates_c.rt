@@ -5,9 +5,10 @@ ghost use Rattle.params.specs.Refusal.{answer};
 ghost use Rattle.gates.specs.Gate.{muxed, muxedNaive, gateOut, muxOut};
 ghost use Rattle.gates.specs.Refusals.{gateNumber, muxNumber};
 ghost use Rattle.gates.specs.declared.Kind.the-variants.{Nand, Or, And, Nor, AndNy, AndYn, OrNy, OrYn, Xor, Xnor};
-ghost use Rattle.egl_c.specs.Packed.{packed, params};
+ghost use Rattle.egl_c.specs.Packed.{packed};
 use super::pack;
 use params::Params;
+ghost use Rattle.params.specs.Published.{numbers};
 
 // Not (a and b).
 #[no_mangle]
@@ -24,8 +25,8 @@ pub extern "C" fn egl_gates_nand(
     bsk: &[u32],
     out: &mut [u32],
 ) -> u64
-    ensures said { λ r. ⌜ r ≡ packed (answer (gateNumber (params n nbit bgbit l basebit t) (length (now (a .entry))) (length (now (b .entry))) (length (now (ksk .entry))) (length (now (bsk .entry))) (length (now (out .entry))))) ⌝ }
-    ensures written { λ r. ⌜ now (out .exit) ≡ gateOut (params n nbit bgbit l basebit t) Nand (now (a .entry)) (now (b .entry)) (now (ksk .entry)) (now (bsk .entry)) (now (out .entry)) ⌝ }
+    ensures said { λ r. ⌜ r ≡ packed (answer (gateNumber (numbers n nbit bgbit l basebit t) (length (now (a .entry))) (length (now (b .entry))) (length (now (ksk .entry))) (length (now (bsk .entry))) (length (now (out .entry))))) ⌝ }
+    ensures written { λ r. ⌜ now (out .exit) ≡ gateOut (numbers n nbit bgbit l basebit t) Nand (now (a .entry)) (now (b .entry)) (now (ksk .entry)) (now (bsk .entry)) (now (out .entry)) ⌝ }
 {
     pack(gates::nand(
         Params {
@@ -59,8 +60,8 @@ pub extern "C" fn egl_gates_or(
     bsk: &[u32],
     out: &mut [u32],
 ) -> u64
-    ensures said { λ r. ⌜ r ≡ packed (answer (gateNumber (params n nbit bgbit l basebit t) (length (now (a .entry))) (length (now (b .entry))) (length (now (ksk .entry))) (length (now (bsk .entry))) (length (now (out .entry))))) ⌝ }
-    ensures written { λ r. ⌜ now (out .exit) ≡ gateOut (params n nbit bgbit l basebit t) Or (now (a .entry)) (now (b .entry)) (now (ksk .entry)) (now (bsk .entry)) (now (out .entry)) ⌝ }
+    ensures said { λ r. ⌜ r ≡ packed (answer (gateNumber (numbers n nbit bgbit l basebit t) (length (now (a .entry))) (length (now (b .entry))) (length (now (ksk .entry))) (length (now (bsk .entry))) (length (now (out .entry))))) ⌝ }
+    ensures written { λ r. ⌜ now (out .exit) ≡ gateOut (numbers n nbit bgbit l basebit t) Or (now (a .entry)) (now (b .entry)) (now (ksk .entry)) (now (bsk .entry)) (now (out .entry)) ⌝ }
 {
     pack(gates::or(
         Params {
@@ -94,8 +95,8 @@ pub extern "C" fn egl_gates_and(
     bsk: &[u32],
     out: &mut [u32],
 ) -> u64
-    ensures said { λ r. ⌜ r ≡ packed (answer (gateNumber (params n nbit bgbit l basebit t) (length (now (a .entry))) (length (now (b .entry))) (length (now (ksk .entry))) (length (now (bsk .entry))) (length (now (out .entry))))) ⌝ }
-    ensures written { λ r. ⌜ now (out .exit) ≡ gateOut (params n nbit bgbit l basebit t) And (now (a .entry)) (now (b .entry)) (now (ksk .entry)) (now (bsk .entry)) (now (out .entry)) ⌝ }
+    ensures said { λ r. ⌜ r ≡ packed (answer (gateNumber (numbers n nbit bgbit l basebit t) (length (now (a .entry))) (length (now (b .entry))) (length (now (ksk .entry))) (length (now (bsk .entry))) (length (now (out .entry))))) ⌝ }
+    ensures written { λ r. ⌜ now (out .exit) ≡ gateOut (numbers n nbit bgbit l basebit t) And (now (a .entry)) (now (b .entry)) (now (ksk .entry)) (now (bsk .entry)) (now (out .entry)) ⌝ }
 {
     pack(gates::and(
         Params {
@@ -129,8 +130,8 @@ pub extern "C" fn egl_gates_nor(
     bsk: &[u32],
     out: &mut [u32],
 ) -> u64
-    ensures said { λ r. ⌜ r ≡ packed (answer (gateNumber (params n nbit bgbit l basebit t) (length (now (a .entry))) (length (now (b .entry))) (length (now (ksk .entry))) (length (now (bsk .entry))) (length (now (out .entry))))) ⌝ }
-    ensures written { λ r. ⌜ now (out .exit) ≡ gateOut (params n nbit bgbit l basebit t) Nor (now (a .entry)) (now (b .entry)) (now (ksk .entry)) (now (bsk .entry)) (now (out .entry)) ⌝ }
+    ensures said { λ r. ⌜ r ≡ packed (answer (gateNumber (numbers n nbit bgbit l basebit t) (length (now (a .entry))) (length (now (b .entry))) (length (now (ksk .entry))) (length (now (bsk .entry))) (length (now (out .entry))))) ⌝ }
+    ensures written { λ r. ⌜ now (out .exit) ≡ gateOut (numbers n nbit bgbit l basebit t) Nor (now (a .entry)) (now (b .entry)) (now (ksk .entry)) (now (bsk .entry)) (now (out .entry)) ⌝ }
 {
     pack(gates::nor(
         Params {
@@ -164,8 +165,8 @@ pub extern "C" fn egl_gates_and_ny(
     bsk: &[u32],
     out: &mut [u32],
 ) -> u64
-    ensures said { λ r. ⌜ r ≡ packed (answer (gateNumber (params n nbit bgbit l basebit t) (length (now (a .entry))) (length (now (b .entry))) (length (now (ksk .entry))) (length (now (bsk .entry))) (length (now (out .entry))))) ⌝ }
-    ensures written { λ r. ⌜ now (out .exit) ≡ gateOut (params n nbit bgbit l basebit t) AndNy (now (a .entry)) (now (b .entry)) (now (ksk .entry)) (now (bsk .entry)) (now (out .entry)) ⌝ }
+    ensures said { λ r. ⌜ r ≡ packed (answer (gateNumber (numbers n nbit bgbit l basebit t) (length (now (a .entry))) (length (now (b .entry))) (length (now (ksk .entry))) (length (now (bsk .entry))) (length (now (out .entry))))) ⌝ }
+    ensures written { λ r. ⌜ now (out .exit) ≡ gateOut (numbers n nbit bgbit l basebit t) AndNy (now (a .entry)) (now (b .entry)) (now (ksk .entry)) (now (bsk .entry)) (now (out .entry)) ⌝ }
 {
     pack(gates::and_ny(
         Params {
@@ -199,8 +200,8 @@ pub extern "C" fn egl_gates_and_yn(
     bsk: &[u32],
     out: &mut [u32],
 ) -> u64
-    ensures said { λ r. ⌜ r ≡ packed (answer (gateNumber (params n nbit bgbit l basebit t) (length (now (a .entry))) (length (now (b .entry))) (length (now (ksk .entry))) (length (now (bsk .entry))) (length (now (out .entry))))) ⌝ }
-    ensures written { λ r. ⌜ now (out .exit) ≡ gateOut (params n nbit bgbit l basebit t) AndYn (now (a .entry)) (now (b .entry)) (now (ksk .entry)) (now (bsk .entry)) (now (out .entry)) ⌝ }
+    ensures said { λ r. ⌜ r ≡ packed (answer (gateNumber (numbers n nbit bgbit l basebit t) (length (now (a .entry))) (length (now (b .entry))) (length (now (ksk .entry))) (length (now (bsk .entry))) (length (now (out .entry))))) ⌝ }
+    ensures written { λ r. ⌜ now (out .exit) ≡ gateOut (numbers n nbit bgbit l basebit t) AndYn (now (a .entry)) (now (b .entry)) (now (ksk .entry)) (now (bsk .entry)) (now (out .entry)) ⌝ }
 {
     pack(gates::and_yn(
         Params {
@@ -234,8 +235,8 @@ pub extern "C" fn egl_gates_or_ny(
     bsk: &[u32],
     out: &mut [u32],
 ) -> u64
-    ensures said { λ r. ⌜ r ≡ packed (answer (gateNumber (params n nbit bgbit l basebit t) (length (now (a .entry))) (length (now (b .entry))) (length (now (ksk .entry))) (length (now (bsk .entry))) (length (now (out .entry))))) ⌝ }
-    ensures written { λ r. ⌜ now (out .exit) ≡ gateOut (params n nbit bgbit l basebit t) OrNy (now (a .entry)) (now (b .entry)) (now (ksk .entry)) (now (bsk .entry)) (now (out .entry)) ⌝ }
+    ensures said { λ r. ⌜ r ≡ packed (answer (gateNumber (numbers n nbit bgbit l basebit t) (length (now (a .entry))) (length (now (b .entry))) (length (now (ksk .entry))) (length (now (bsk .entry))) (length (now (out .entry))))) ⌝ }
+    ensures written { λ r. ⌜ now (out .exit) ≡ gateOut (numbers n nbit bgbit l basebit t) OrNy (now (a .entry)) (now (b .entry)) (now (ksk .entry)) (now (bsk .entry)) (now (out .entry)) ⌝ }
 {
     pack(gates::or_ny(
         Params {
@@ -269,8 +270,8 @@ pub extern "C" fn egl_gates_or_yn(
     bsk: &[u32],
     out: &mut [u32],
 ) -> u64
-    ensures said { λ r. ⌜ r ≡ packed (answer (gateNumber (params n nbit bgbit l basebit t) (length (now (a .entry))) (length (now (b .entry))) (length (now (ksk .entry))) (length (now (bsk .entry))) (length (now (out .entry))))) ⌝ }
-    ensures written { λ r. ⌜ now (out .exit) ≡ gateOut (params n nbit bgbit l basebit t) OrYn (now (a .entry)) (now (b .entry)) (now (ksk .entry)) (now (bsk .entry)) (now (out .entry)) ⌝ }
+    ensures said { λ r. ⌜ r ≡ packed (answer (gateNumber (numbers n nbit bgbit l basebit t) (length (now (a .entry))) (length (now (b .entry))) (length (now (ksk .entry))) (length (now (bsk .entry))) (length (now (out .entry))))) ⌝ }
+    ensures written { λ r. ⌜ now (out .exit) ≡ gateOut (numbers n nbit bgbit l basebit t) OrYn (now (a .entry)) (now (b .entry)) (now (ksk .entry)) (now (bsk .entry)) (now (out .entry)) ⌝ }
 {
     pack(gates::or_yn(
         Params {
@@ -304,8 +305,8 @@ pub extern "C" fn egl_gates_xor(
     bsk: &[u32],
     out: &mut [u32],
 ) -> u64
-    ensures said { λ r. ⌜ r ≡ packed (answer (gateNumber (params n nbit bgbit l basebit t) (length (now (a .entry))) (length (now (b .entry))) (length (now (ksk .entry))) (length (now (bsk .entry))) (length (now (out .entry))))) ⌝ }
-    ensures written { λ r. ⌜ now (out .exit) ≡ gateOut (params n nbit bgbit l basebit t) Xor (now (a .entry)) (now (b .entry)) (now (ksk .entry)) (now (bsk .entry)) (now (out .entry)) ⌝ }
+    ensures said { λ r. ⌜ r ≡ packed (answer (gateNumber (numbers n nbit bgbit l basebit t) (length (now (a .entry))) (length (now (b .entry))) (length (now (ksk .entry))) (length (now (bsk .entry))) (length (now (out .entry))))) ⌝ }
+    ensures written { λ r. ⌜ now (out .exit) ≡ gateOut (numbers n nbit bgbit l basebit t) Xor (now (a .entry)) (now (b .entry)) (now (ksk .entry)) (now (bsk .entry)) (now (out .entry)) ⌝ }
 {
     pack(gates::xor(
         Params {
@@ -339,8 +340,8 @@ pub extern "C" fn egl_gates_xnor(
     bsk: &[u32],
     out: &mut [u32],
 ) -> u64
-    ensures said { λ r. ⌜ r ≡ packed (answer (gateNumber (params n nbit bgbit l basebit t) (length (now (a .entry))) (length (now (b .entry))) (length (now (ksk .entry))) (length (now (bsk .entry))) (length (now (out .entry))))) ⌝ }
-    ensures written { λ r. ⌜ now (out .exit) ≡ gateOut (params n nbit bgbit l basebit t) Xnor (now (a .entry)) (now (b .entry)) (now (ksk .entry)) (now (bsk .entry)) (now (out .entry)) ⌝ }
+    ensures said { λ r. ⌜ r ≡ packed (answer (gateNumber (numbers n nbit bgbit l basebit t) (length (now (a .entry))) (length (now (b .entry))) (length (now (ksk .entry))) (length (now (bsk .entry))) (length (now (out .entry))))) ⌝ }
+    ensures written { λ r. ⌜ now (out .exit) ≡ gateOut (numbers n nbit bgbit l basebit t) Xnor (now (a .entry)) (now (b .entry)) (now (ksk .entry)) (now (bsk .entry)) (now (out .entry)) ⌝ }
 {
     pack(gates::xnor(
         Params {
@@ -375,8 +376,8 @@ pub extern "C" fn egl_gates_mux(
     bsk: &[u32],
     out: &mut [u32],
 ) -> u64
-    ensures said { λ r. ⌜ r ≡ packed (answer (muxNumber (params n nbit bgbit l basebit t) (length (now (a .entry))) (length (now (b .entry))) (length (now (c .entry))) (length (now (ksk .entry))) (length (now (bsk .entry))) (length (now (out .entry))))) ⌝ }
-    ensures written { λ r. ⌜ now (out .exit) ≡ muxOut muxed (params n nbit bgbit l basebit t) (now (a .entry)) (now (b .entry)) (now (c .entry)) (now (ksk .entry)) (now (bsk .entry)) (now (out .entry)) ⌝ }
+    ensures said { λ r. ⌜ r ≡ packed (answer (muxNumber (numbers n nbit bgbit l basebit t) (length (now (a .entry))) (length (now (b .entry))) (length (now (c .entry))) (length (now (ksk .entry))) (length (now (bsk .entry))) (length (now (out .entry))))) ⌝ }
+    ensures written { λ r. ⌜ now (out .exit) ≡ muxOut muxed (numbers n nbit bgbit l basebit t) (now (a .entry)) (now (b .entry)) (now (c .entry)) (now (ksk .entry)) (now (bsk .entry)) (now (out .entry)) ⌝ }
 {
     pack(gates::mux(
         Params {
@@ -412,8 +413,8 @@ pub extern "C" fn egl_gates_mux_naive(
     bsk: &[u32],
     out: &mut [u32],
 ) -> u64
-    ensures said { λ r. ⌜ r ≡ packed (answer (muxNumber (params n nbit bgbit l basebit t) (length (now (a .entry))) (length (now (b .entry))) (length (now (c .entry))) (length (now (ksk .entry))) (length (now (bsk .entry))) (length (now (out .entry))))) ⌝ }
-    ensures written { λ r. ⌜ now (out .exit) ≡ muxOut muxedNaive (params n nbit bgbit l basebit t) (now (a .entry)) (now (b .entry)) (now (c .entry)) (now (ksk .entry)) (now (bsk .entry)) (now (out .entry)) ⌝ }
+    ensures said { λ r. ⌜ r ≡ packed (answer (muxNumber (numbers n nbit bgbit l basebit t) (length (now (a .entry))) (length (now (b .entry))) (length (now (c .entry))) (length (now (ksk .entry))) (length (now (bsk .entry))) (length (now (out .entry))))) ⌝ }
+    ensures written { λ r. ⌜ now (out .exit) ≡ muxOut muxedNaive (numbers n nbit bgbit l basebit t) (now (a .entry)) (now (b .entry)) (now (c .entry)) (now (ksk .entry)) (now (bsk .entry)) (now (out .entry)) ⌝ }
 {
     pack(gates::mux_naive(
         Params {

@@ -6,10 +6,11 @@ ghost use Rattle.key.specs.Offset.{offsetOut};
 ghost use Rattle.key.specs.Testvec.{testNumber, testA, testB};
 ghost use Rattle.key.specs.Switching.{lookupNumber, placeOut};
 ghost use Rattle.key.specs.Generation.{generateNumber, generated};
-ghost use Rattle.egl_c.specs.Packed.{packed, packedWith, params};
+ghost use Rattle.egl_c.specs.Packed.{packed, packedWith};
 use super::pack;
 use super::pack_with;
 use params::Params;
+ghost use Rattle.params.specs.Published.{numbers};
 
 // The decomposition's offset, as the value.
 #[no_mangle]
@@ -21,7 +22,7 @@ pub extern "C" fn egl_key_decomposition_offset(
     basebit: u32,
     t: u32,
 ) -> u64
-    ensures { λ r. ⌜ r ≡ packedWith (offsetOut (params n nbit bgbit l basebit t) .answer) (offsetOut (params n nbit bgbit l basebit t) .value .0) ⌝ }
+    ensures { λ r. ⌜ r ≡ packedWith (offsetOut (numbers n nbit bgbit l basebit t) .answer) (offsetOut (numbers n nbit bgbit l basebit t) .value .0) ⌝ }
 {
     let o = key::decomposition_offset(Params {
         n,
@@ -48,9 +49,9 @@ pub extern "C" fn egl_key_gen_testvec(
     a: &mut [u32],
     b: &mut [u32],
 ) -> u64
-    ensures said { λ r. ⌜ r ≡ packed (answer (testNumber (params n nbit bgbit l basebit t) (length (now (a .entry))) (length (now (b .entry))))) ⌝ }
-    ensures first { λ r. ⌜ now (a .exit) ≡ ifDone (testNumber (params n nbit bgbit l basebit t) (length (now (a .entry))) (length (now (b .entry)))) (testA (params n nbit bgbit l basebit t)) (now (a .entry)) ⌝ }
-    ensures second { λ r. ⌜ now (b .exit) ≡ ifDone (testNumber (params n nbit bgbit l basebit t) (length (now (a .entry))) (length (now (b .entry)))) (testB (params n nbit bgbit l basebit t)) (now (b .entry)) ⌝ }
+    ensures said { λ r. ⌜ r ≡ packed (answer (testNumber (numbers n nbit bgbit l basebit t) (length (now (a .entry))) (length (now (b .entry))))) ⌝ }
+    ensures first { λ r. ⌜ now (a .exit) ≡ ifDone (testNumber (numbers n nbit bgbit l basebit t) (length (now (a .entry))) (length (now (b .entry)))) (testA (numbers n nbit bgbit l basebit t)) (now (a .entry)) ⌝ }
+    ensures second { λ r. ⌜ now (b .exit) ≡ ifDone (testNumber (numbers n nbit bgbit l basebit t) (length (now (a .entry))) (length (now (b .entry)))) (testB (numbers n nbit bgbit l basebit t)) (now (b .entry)) ⌝ }
 {
     pack(key::gen_testvec(
         Params {
@@ -81,8 +82,8 @@ pub extern "C" fn egl_key_gen_key_switching_key(
     noise: &[u32],
     out: &mut [u32],
 ) -> u64
-    ensures said { λ r. ⌜ r ≡ packed (answer (generateNumber (params n nbit bgbit l basebit t) (now («key_lv0» .entry)) (now («key_lv1» .entry)) (length (now (masks .entry))) (length (now (noise .entry))) (length (now (out .entry))))) ⌝ }
-    ensures written { λ r. ⌜ now (out .exit) ≡ ifDone (generateNumber (params n nbit bgbit l basebit t) (now («key_lv0» .entry)) (now («key_lv1» .entry)) (length (now (masks .entry))) (length (now (noise .entry))) (length (now (out .entry)))) (generated (params n nbit bgbit l basebit t) (now («key_lv0» .entry)) (now («key_lv1» .entry)) (now (masks .entry)) (now (noise .entry))) (now (out .entry)) ⌝ }
+    ensures said { λ r. ⌜ r ≡ packed (answer (generateNumber (numbers n nbit bgbit l basebit t) (now («key_lv0» .entry)) (now («key_lv1» .entry)) (length (now (masks .entry))) (length (now (noise .entry))) (length (now (out .entry))))) ⌝ }
+    ensures written { λ r. ⌜ now (out .exit) ≡ ifDone (generateNumber (numbers n nbit bgbit l basebit t) (now («key_lv0» .entry)) (now («key_lv1» .entry)) (length (now (masks .entry))) (length (now (noise .entry))) (length (now (out .entry)))) (generated (numbers n nbit bgbit l basebit t) (now («key_lv0» .entry)) (now («key_lv1» .entry)) (now (masks .entry)) (now (noise .entry))) (now (out .entry)) ⌝ }
 {
     pack(key::gen_key_switching_key(
         Params {
@@ -115,7 +116,7 @@ pub extern "C" fn egl_key_switching_row_answer(
     j: usize,
     k: usize,
 ) -> u64
-    ensures { λ r. ⌜ r ≡ packed (answer (lookupNumber (params n nbit bgbit l basebit t) words i j k)) ⌝ }
+    ensures { λ r. ⌜ r ≡ packed (answer (lookupNumber (numbers n nbit bgbit l basebit t) words i j k)) ⌝ }
 {
     pack(key::switching_row_answer(
         Params {
@@ -146,7 +147,7 @@ pub extern "C" fn egl_key_row_index(
     j: usize,
     k: usize,
 ) -> u64
-    ensures { λ r. ⌜ r ≡ packedWith (placeOut (params n nbit bgbit l basebit t) i j k .answer) (placeOut (params n nbit bgbit l basebit t) i j k .value) ⌝ }
+    ensures { λ r. ⌜ r ≡ packedWith (placeOut (numbers n nbit bgbit l basebit t) i j k .answer) (placeOut (numbers n nbit bgbit l basebit t) i j k .value) ⌝ }
 {
     let found = key::row_index(
         Params {

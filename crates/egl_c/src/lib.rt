@@ -1,8 +1,9 @@
 // The library as C sees it (include/egl.h): numbers as themselves, a slice as a pointer and a length, the answer as one u64. Every function here is
 // thin: its contract is that of the routine it calls.
 ghost use mathlib.Core.Path.{_≡_};
-ghost use Rattle.egl_c.specs.Packed.{packed, packedWith, packedTold, bitNumber};
+ghost use Rattle.egl_c.specs.Packed.{packed, packedWith, packedTold};
 use params::Answer;
+ghost use Rattle.ring.specs.Bit.{bitNumber};
 
 pub mod blind_rotation_c;
 pub mod bootstrapping_c;

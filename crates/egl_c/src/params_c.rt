@@ -2,9 +2,10 @@
 ghost use mathlib.Core.Path.{_≡_};
 ghost use Rattle.params.specs.Refusal.{answer};
 ghost use Rattle.params.specs.Ranges.{paramsNumber};
-ghost use Rattle.egl_c.specs.Packed.{packed, params};
+ghost use Rattle.egl_c.specs.Packed.{packed};
 use super::pack;
 use params::Params;
+ghost use Rattle.params.specs.Published.{numbers};
 
 // Refusal 1 where a number is outside its range.
 #[no_mangle]
@@ -16,7 +17,7 @@ pub extern "C" fn egl_params_check(
     basebit: u32,
     t: u32,
 ) -> u64
-    ensures { λ r. ⌜ r ≡ packed (answer (paramsNumber (params n nbit bgbit l basebit t))) ⌝ }
+    ensures { λ r. ⌜ r ≡ packed (answer (paramsNumber (numbers n nbit bgbit l basebit t))) ⌝ }
 {
     pack(params::check(Params {
         n,

@@ -3,9 +3,10 @@ ghost use mathlib.Core.Path.{_≡_};
 ghost use lib.ListN.{length};
 ghost use Rattle.params.specs.Refusal.{answer};
 ghost use Rattle.product.specs.Product.{productNumber, polyMulOut, polyMulAddOut};
-ghost use Rattle.egl_c.specs.Packed.{packed, params};
+ghost use Rattle.egl_c.specs.Packed.{packed};
 use super::pack;
 use params::Params;
+ghost use Rattle.params.specs.Published.{numbers};
 
 // out = a · b modulo X^N + 1 and 2^32: the Rust's `poly_mul`, exact.
 #[no_mangle]
@@ -20,8 +21,8 @@ pub extern "C" fn egl_product_poly_mul(
     b: &[u32],
     out: &mut [u32],
 ) -> u64
-    ensures said { λ r. ⌜ r ≡ packed (answer (productNumber (params n nbit bgbit l basebit t) (length (now (a .entry))) (length (now (b .entry))) (length (now (out .entry))))) ⌝ }
-    ensures written { λ r. ⌜ now (out .exit) ≡ polyMulOut (params n nbit bgbit l basebit t) (now (a .entry)) (now (b .entry)) (now (out .entry)) ⌝ }
+    ensures said { λ r. ⌜ r ≡ packed (answer (productNumber (numbers n nbit bgbit l basebit t) (length (now (a .entry))) (length (now (b .entry))) (length (now (out .entry))))) ⌝ }
+    ensures written { λ r. ⌜ now (out .exit) ≡ polyMulOut (numbers n nbit bgbit l basebit t) (now (a .entry)) (now (b .entry)) (now (out .entry)) ⌝ }
 {
     pack(product::poly_mul(
         Params {
@@ -51,8 +52,8 @@ pub extern "C" fn egl_product_poly_mul_add(
     b: &[u32],
     out: &mut [u32],
 ) -> u64
-    ensures said { λ r. ⌜ r ≡ packed (answer (productNumber (params n nbit bgbit l basebit t) (length (now (a .entry))) (length (now (b .entry))) (length (now (out .entry))))) ⌝ }
-    ensures written { λ r. ⌜ now (out .exit) ≡ polyMulAddOut (params n nbit bgbit l basebit t) (now (a .entry)) (now (b .entry)) (now (out .entry)) ⌝ }
+    ensures said { λ r. ⌜ r ≡ packed (answer (productNumber (numbers n nbit bgbit l basebit t) (length (now (a .entry))) (length (now (b .entry))) (length (now (out .entry))))) ⌝ }
+    ensures written { λ r. ⌜ now (out .exit) ≡ polyMulAddOut (numbers n nbit bgbit l basebit t) (now (a .entry)) (now (b .entry)) (now (out .entry)) ⌝ }
 {
     pack(product::poly_mul_add(
         Params {

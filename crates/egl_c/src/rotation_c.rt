@@ -6,12 +6,13 @@ ghost use Rattle.params.specs.Sizes.{size};
 ghost use Rattle.ring.specs.Turn.{rotated};
 ghost use Rattle.rotation.specs.Amount.{maskAmount, bodyAmount, roundedTo};
 ghost use Rattle.rotation.specs.Rotate.{rotateNumber};
-ghost use Rattle.egl_c.specs.Packed.{packed, packedWith, params};
+ghost use Rattle.egl_c.specs.Packed.{packed, packedWith};
 use super::pack;
 use super::pack_with;
 use params::Params;
 use utils::Amount;
 use utils::Torus;
+ghost use Rattle.params.specs.Published.{numbers};
 
 // X^k · a: places move by k modulo 2N, and a coefficient that ends in the upper half is complemented.
 #[no_mangle]
@@ -26,8 +27,8 @@ pub extern "C" fn egl_trgsw_poly_mul_with_x_k(
     k: u32,
     out: &mut [u32],
 ) -> u64
-    ensures said { λ r. ⌜ r ≡ packed (answer (rotateNumber (params n nbit bgbit l basebit t) (length (now (a .entry))) (length (now (out .entry))) k)) ⌝ }
-    ensures written { λ r. ⌜ now (out .exit) ≡ ifDone (rotateNumber (params n nbit bgbit l basebit t) (length (now (a .entry))) (length (now (out .entry))) k) (rotated (size (params n nbit bgbit l basebit t)) k (now (a .entry))) (now (out .entry)) ⌝ }
+    ensures said { λ r. ⌜ r ≡ packed (answer (rotateNumber (numbers n nbit bgbit l basebit t) (length (now (a .entry))) (length (now (out .entry))) k)) ⌝ }
+    ensures written { λ r. ⌜ now (out .exit) ≡ ifDone (rotateNumber (numbers n nbit bgbit l basebit t) (length (now (a .entry))) (length (now (out .entry))) k) (rotated (size (numbers n nbit bgbit l basebit t)) k (now (a .entry))) (now (out .entry)) ⌝ }
 {
     pack(rotation::poly_mul_with_x_k(
         Params {
@@ -55,7 +56,7 @@ pub extern "C" fn egl_trgsw_mask_amount(
     t: u32,
     x: u32,
 ) -> u64
-    ensures { λ r. ⌜ r ≡ packedWith (roundedTo (params n nbit bgbit l basebit t) (maskAmount (params n nbit bgbit l basebit t) x) .answer) (roundedTo (params n nbit bgbit l basebit t) (maskAmount (params n nbit bgbit l basebit t) x) .amount .0) ⌝ }
+    ensures { λ r. ⌜ r ≡ packedWith (roundedTo (numbers n nbit bgbit l basebit t) (maskAmount (numbers n nbit bgbit l basebit t) x) .answer) (roundedTo (numbers n nbit bgbit l basebit t) (maskAmount (numbers n nbit bgbit l basebit t) x) .amount .0) ⌝ }
 {
     let r = rotation::mask_amount(
         Params {
@@ -84,7 +85,7 @@ pub extern "C" fn egl_trgsw_body_amount(
     t: u32,
     b: u32,
 ) -> u64
-    ensures { λ r. ⌜ r ≡ packedWith (roundedTo (params n nbit bgbit l basebit t) (bodyAmount (params n nbit bgbit l basebit t) b) .answer) (roundedTo (params n nbit bgbit l basebit t) (bodyAmount (params n nbit bgbit l basebit t) b) .amount .0) ⌝ }
+    ensures { λ r. ⌜ r ≡ packedWith (roundedTo (numbers n nbit bgbit l basebit t) (bodyAmount (numbers n nbit bgbit l basebit t) b) .answer) (roundedTo (numbers n nbit bgbit l basebit t) (bodyAmount (numbers n nbit bgbit l basebit t) b) .amount .0) ⌝ }
 {
     let r = rotation::body_amount(
         Params {

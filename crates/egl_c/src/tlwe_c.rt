@@ -3,13 +3,14 @@ ghost use mathlib.Core.Path.{_≡_};
 ghost use lib.ListN.{length};
 ghost use Rattle.ring.specs.Poly.{plus, minus, scale};
 ghost use Rattle.params.specs.Refusal.{answer, ifDone};
-ghost use Rattle.tlwe.specs.Level.{words};
+ghost use Rattle.tlwe.specs.Level.{cipherWords};
 ghost use Rattle.tlwe.specs.Linear.{linearNumber, negative};
 ghost use Rattle.tlwe.specs.declared.Level.the-variants.{Zero, One};
-ghost use Rattle.egl_c.specs.Packed.{packed, params};
+ghost use Rattle.egl_c.specs.Packed.{packed};
 use super::pack;
 use params::Params;
 use tlwe::Level;
+ghost use Rattle.params.specs.Published.{numbers};
 
 // a + b, at level 0.
 #[no_mangle]
@@ -24,8 +25,8 @@ pub extern "C" fn egl_tlwe_add_lv0(
     b: &[u32],
     out: &mut [u32],
 ) -> u64
-    ensures said { λ r. ⌜ r ≡ packed (answer (linearNumber (params n nbit bgbit l basebit t) Zero (length (now (a .entry))) (length (now (b .entry))) (length (now (out .entry))))) ⌝ }
-    ensures written { λ r. ⌜ now (out .exit) ≡ ifDone (linearNumber (params n nbit bgbit l basebit t) Zero (length (now (a .entry))) (length (now (b .entry))) (length (now (out .entry)))) (plus (words (params n nbit bgbit l basebit t) Zero) (now (a .entry)) (now (b .entry))) (now (out .entry)) ⌝ }
+    ensures said { λ r. ⌜ r ≡ packed (answer (linearNumber (numbers n nbit bgbit l basebit t) Zero (length (now (a .entry))) (length (now (b .entry))) (length (now (out .entry))))) ⌝ }
+    ensures written { λ r. ⌜ now (out .exit) ≡ ifDone (linearNumber (numbers n nbit bgbit l basebit t) Zero (length (now (a .entry))) (length (now (b .entry))) (length (now (out .entry)))) (plus (cipherWords (numbers n nbit bgbit l basebit t) Zero) (now (a .entry)) (now (b .entry))) (now (out .entry)) ⌝ }
 {
     pack(tlwe::linear::add(
         Params {
@@ -56,8 +57,8 @@ pub extern "C" fn egl_tlwe_add_lv1(
     b: &[u32],
     out: &mut [u32],
 ) -> u64
-    ensures said { λ r. ⌜ r ≡ packed (answer (linearNumber (params n nbit bgbit l basebit t) One (length (now (a .entry))) (length (now (b .entry))) (length (now (out .entry))))) ⌝ }
-    ensures written { λ r. ⌜ now (out .exit) ≡ ifDone (linearNumber (params n nbit bgbit l basebit t) One (length (now (a .entry))) (length (now (b .entry))) (length (now (out .entry)))) (plus (words (params n nbit bgbit l basebit t) One) (now (a .entry)) (now (b .entry))) (now (out .entry)) ⌝ }
+    ensures said { λ r. ⌜ r ≡ packed (answer (linearNumber (numbers n nbit bgbit l basebit t) One (length (now (a .entry))) (length (now (b .entry))) (length (now (out .entry))))) ⌝ }
+    ensures written { λ r. ⌜ now (out .exit) ≡ ifDone (linearNumber (numbers n nbit bgbit l basebit t) One (length (now (a .entry))) (length (now (b .entry))) (length (now (out .entry)))) (plus (cipherWords (numbers n nbit bgbit l basebit t) One) (now (a .entry)) (now (b .entry))) (now (out .entry)) ⌝ }
 {
     pack(tlwe::linear::add(
         Params {
@@ -88,8 +89,8 @@ pub extern "C" fn egl_tlwe_sub_lv0(
     b: &[u32],
     out: &mut [u32],
 ) -> u64
-    ensures said { λ r. ⌜ r ≡ packed (answer (linearNumber (params n nbit bgbit l basebit t) Zero (length (now (a .entry))) (length (now (b .entry))) (length (now (out .entry))))) ⌝ }
-    ensures written { λ r. ⌜ now (out .exit) ≡ ifDone (linearNumber (params n nbit bgbit l basebit t) Zero (length (now (a .entry))) (length (now (b .entry))) (length (now (out .entry)))) (minus (words (params n nbit bgbit l basebit t) Zero) (now (a .entry)) (now (b .entry))) (now (out .entry)) ⌝ }
+    ensures said { λ r. ⌜ r ≡ packed (answer (linearNumber (numbers n nbit bgbit l basebit t) Zero (length (now (a .entry))) (length (now (b .entry))) (length (now (out .entry))))) ⌝ }
+    ensures written { λ r. ⌜ now (out .exit) ≡ ifDone (linearNumber (numbers n nbit bgbit l basebit t) Zero (length (now (a .entry))) (length (now (b .entry))) (length (now (out .entry)))) (minus (cipherWords (numbers n nbit bgbit l basebit t) Zero) (now (a .entry)) (now (b .entry))) (now (out .entry)) ⌝ }
 {
     pack(tlwe::linear::sub(
         Params {
@@ -120,8 +121,8 @@ pub extern "C" fn egl_tlwe_sub_lv1(
     b: &[u32],
     out: &mut [u32],
 ) -> u64
-    ensures said { λ r. ⌜ r ≡ packed (answer (linearNumber (params n nbit bgbit l basebit t) One (length (now (a .entry))) (length (now (b .entry))) (length (now (out .entry))))) ⌝ }
-    ensures written { λ r. ⌜ now (out .exit) ≡ ifDone (linearNumber (params n nbit bgbit l basebit t) One (length (now (a .entry))) (length (now (b .entry))) (length (now (out .entry)))) (minus (words (params n nbit bgbit l basebit t) One) (now (a .entry)) (now (b .entry))) (now (out .entry)) ⌝ }
+    ensures said { λ r. ⌜ r ≡ packed (answer (linearNumber (numbers n nbit bgbit l basebit t) One (length (now (a .entry))) (length (now (b .entry))) (length (now (out .entry))))) ⌝ }
+    ensures written { λ r. ⌜ now (out .exit) ≡ ifDone (linearNumber (numbers n nbit bgbit l basebit t) One (length (now (a .entry))) (length (now (b .entry))) (length (now (out .entry)))) (minus (cipherWords (numbers n nbit bgbit l basebit t) One) (now (a .entry)) (now (b .entry))) (now (out .entry)) ⌝ }
 {
     pack(tlwe::linear::sub(
         Params {
@@ -151,8 +152,8 @@ pub extern "C" fn egl_tlwe_neg_lv0(
     a: &[u32],
     out: &mut [u32],
 ) -> u64
-    ensures said { λ r. ⌜ r ≡ packed (answer (linearNumber (params n nbit bgbit l basebit t) Zero (length (now (a .entry))) (length (now (a .entry))) (length (now (out .entry))))) ⌝ }
-    ensures written { λ r. ⌜ now (out .exit) ≡ ifDone (linearNumber (params n nbit bgbit l basebit t) Zero (length (now (a .entry))) (length (now (a .entry))) (length (now (out .entry)))) (negative (words (params n nbit bgbit l basebit t) Zero) (now (a .entry))) (now (out .entry)) ⌝ }
+    ensures said { λ r. ⌜ r ≡ packed (answer (linearNumber (numbers n nbit bgbit l basebit t) Zero (length (now (a .entry))) (length (now (a .entry))) (length (now (out .entry))))) ⌝ }
+    ensures written { λ r. ⌜ now (out .exit) ≡ ifDone (linearNumber (numbers n nbit bgbit l basebit t) Zero (length (now (a .entry))) (length (now (a .entry))) (length (now (out .entry)))) (negative (cipherWords (numbers n nbit bgbit l basebit t) Zero) (now (a .entry))) (now (out .entry)) ⌝ }
 {
     pack(tlwe::linear::neg(
         Params {
@@ -181,8 +182,8 @@ pub extern "C" fn egl_tlwe_neg_lv1(
     a: &[u32],
     out: &mut [u32],
 ) -> u64
-    ensures said { λ r. ⌜ r ≡ packed (answer (linearNumber (params n nbit bgbit l basebit t) One (length (now (a .entry))) (length (now (a .entry))) (length (now (out .entry))))) ⌝ }
-    ensures written { λ r. ⌜ now (out .exit) ≡ ifDone (linearNumber (params n nbit bgbit l basebit t) One (length (now (a .entry))) (length (now (a .entry))) (length (now (out .entry)))) (negative (words (params n nbit bgbit l basebit t) One) (now (a .entry))) (now (out .entry)) ⌝ }
+    ensures said { λ r. ⌜ r ≡ packed (answer (linearNumber (numbers n nbit bgbit l basebit t) One (length (now (a .entry))) (length (now (a .entry))) (length (now (out .entry))))) ⌝ }
+    ensures written { λ r. ⌜ now (out .exit) ≡ ifDone (linearNumber (numbers n nbit bgbit l basebit t) One (length (now (a .entry))) (length (now (a .entry))) (length (now (out .entry)))) (negative (cipherWords (numbers n nbit bgbit l basebit t) One) (now (a .entry))) (now (out .entry)) ⌝ }
 {
     pack(tlwe::linear::neg(
         Params {
@@ -213,8 +214,8 @@ pub extern "C" fn egl_tlwe_add_mul_lv0(
     multiplier: u32,
     out: &mut [u32],
 ) -> u64
-    ensures said { λ r. ⌜ r ≡ packed (answer (linearNumber (params n nbit bgbit l basebit t) Zero (length (now (a .entry))) (length (now (b .entry))) (length (now (out .entry))))) ⌝ }
-    ensures written { λ r. ⌜ now (out .exit) ≡ ifDone (linearNumber (params n nbit bgbit l basebit t) Zero (length (now (a .entry))) (length (now (b .entry))) (length (now (out .entry)))) (plus (words (params n nbit bgbit l basebit t) Zero) (now (a .entry)) (scale (words (params n nbit bgbit l basebit t) Zero) multiplier (now (b .entry)))) (now (out .entry)) ⌝ }
+    ensures said { λ r. ⌜ r ≡ packed (answer (linearNumber (numbers n nbit bgbit l basebit t) Zero (length (now (a .entry))) (length (now (b .entry))) (length (now (out .entry))))) ⌝ }
+    ensures written { λ r. ⌜ now (out .exit) ≡ ifDone (linearNumber (numbers n nbit bgbit l basebit t) Zero (length (now (a .entry))) (length (now (b .entry))) (length (now (out .entry)))) (plus (cipherWords (numbers n nbit bgbit l basebit t) Zero) (now (a .entry)) (scale (cipherWords (numbers n nbit bgbit l basebit t) Zero) multiplier (now (b .entry)))) (now (out .entry)) ⌝ }
 {
     pack(tlwe::linear::add_mul(
         Params {
@@ -247,8 +248,8 @@ pub extern "C" fn egl_tlwe_add_mul_lv1(
     multiplier: u32,
     out: &mut [u32],
 ) -> u64
-    ensures said { λ r. ⌜ r ≡ packed (answer (linearNumber (params n nbit bgbit l basebit t) One (length (now (a .entry))) (length (now (b .entry))) (length (now (out .entry))))) ⌝ }
-    ensures written { λ r. ⌜ now (out .exit) ≡ ifDone (linearNumber (params n nbit bgbit l basebit t) One (length (now (a .entry))) (length (now (b .entry))) (length (now (out .entry)))) (plus (words (params n nbit bgbit l basebit t) One) (now (a .entry)) (scale (words (params n nbit bgbit l basebit t) One) multiplier (now (b .entry)))) (now (out .entry)) ⌝ }
+    ensures said { λ r. ⌜ r ≡ packed (answer (linearNumber (numbers n nbit bgbit l basebit t) One (length (now (a .entry))) (length (now (b .entry))) (length (now (out .entry))))) ⌝ }
+    ensures written { λ r. ⌜ now (out .exit) ≡ ifDone (linearNumber (numbers n nbit bgbit l basebit t) One (length (now (a .entry))) (length (now (b .entry))) (length (now (out .entry)))) (plus (cipherWords (numbers n nbit bgbit l basebit t) One) (now (a .entry)) (scale (cipherWords (numbers n nbit bgbit l basebit t) One) multiplier (now (b .entry)))) (now (out .entry)) ⌝ }
 {
     pack(tlwe::linear::add_mul(
         Params {
@@ -281,8 +282,8 @@ pub extern "C" fn egl_tlwe_sub_mul_lv0(
     multiplier: u32,
     out: &mut [u32],
 ) -> u64
-    ensures said { λ r. ⌜ r ≡ packed (answer (linearNumber (params n nbit bgbit l basebit t) Zero (length (now (a .entry))) (length (now (b .entry))) (length (now (out .entry))))) ⌝ }
-    ensures written { λ r. ⌜ now (out .exit) ≡ ifDone (linearNumber (params n nbit bgbit l basebit t) Zero (length (now (a .entry))) (length (now (b .entry))) (length (now (out .entry)))) (minus (words (params n nbit bgbit l basebit t) Zero) (now (a .entry)) (scale (words (params n nbit bgbit l basebit t) Zero) multiplier (now (b .entry)))) (now (out .entry)) ⌝ }
+    ensures said { λ r. ⌜ r ≡ packed (answer (linearNumber (numbers n nbit bgbit l basebit t) Zero (length (now (a .entry))) (length (now (b .entry))) (length (now (out .entry))))) ⌝ }
+    ensures written { λ r. ⌜ now (out .exit) ≡ ifDone (linearNumber (numbers n nbit bgbit l basebit t) Zero (length (now (a .entry))) (length (now (b .entry))) (length (now (out .entry)))) (minus (cipherWords (numbers n nbit bgbit l basebit t) Zero) (now (a .entry)) (scale (cipherWords (numbers n nbit bgbit l basebit t) Zero) multiplier (now (b .entry)))) (now (out .entry)) ⌝ }
 {
     pack(tlwe::linear::sub_mul(
         Params {
@@ -315,8 +316,8 @@ pub extern "C" fn egl_tlwe_sub_mul_lv1(
     multiplier: u32,
     out: &mut [u32],
 ) -> u64
-    ensures said { λ r. ⌜ r ≡ packed (answer (linearNumber (params n nbit bgbit l basebit t) One (length (now (a .entry))) (length (now (b .entry))) (length (now (out .entry))))) ⌝ }
-    ensures written { λ r. ⌜ now (out .exit) ≡ ifDone (linearNumber (params n nbit bgbit l basebit t) One (length (now (a .entry))) (length (now (b .entry))) (length (now (out .entry)))) (minus (words (params n nbit bgbit l basebit t) One) (now (a .entry)) (scale (words (params n nbit bgbit l basebit t) One) multiplier (now (b .entry)))) (now (out .entry)) ⌝ }
+    ensures said { λ r. ⌜ r ≡ packed (answer (linearNumber (numbers n nbit bgbit l basebit t) One (length (now (a .entry))) (length (now (b .entry))) (length (now (out .entry))))) ⌝ }
+    ensures written { λ r. ⌜ now (out .exit) ≡ ifDone (linearNumber (numbers n nbit bgbit l basebit t) One (length (now (a .entry))) (length (now (b .entry))) (length (now (out .entry)))) (minus (cipherWords (numbers n nbit bgbit l basebit t) One) (now (a .entry)) (scale (cipherWords (numbers n nbit bgbit l basebit t) One) multiplier (now (b .entry)))) (now (out .entry)) ⌝ }
 {
     pack(tlwe::linear::sub_mul(
         Params {

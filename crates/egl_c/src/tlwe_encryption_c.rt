@@ -13,7 +13,7 @@ ghost use Rattle.tlwe.specs.Key.{keyedNumber, phaseOf};
 ghost use Rattle.tlwe.specs.Decrypt.{bitOf, messageOf};
 ghost use Rattle.tlwe.specs.declared.Level.the-variants.{Zero, One};
 ghost use Rattle.tlwe.specs.declared.Plain.the-variants.{Bit, Turn, Message};
-ghost use Rattle.egl_c.specs.Packed.{packed, packedWith, params, bitNumber, isBit};
+ghost use Rattle.egl_c.specs.Packed.{packed, packedWith};
 use super::bit_number;
 use super::pack;
 use super::pack_with;
@@ -21,6 +21,8 @@ use params::Params;
 use tlwe::Level;
 use tlwe::Plain;
 use utils::Torus;
+ghost use Rattle.params.specs.Published.{numbers};
+ghost use Rattle.ring.specs.Bit.{bitNumber, truth};
 
 // A bit: 0 is false, any other number true, at level 0.
 #[no_mangle]
@@ -37,8 +39,8 @@ pub extern "C" fn egl_tlwe_encrypt_bit_lv0(
     key: &[u32],
     out: &mut [u32],
 ) -> u64
-    ensures said { λ r. ⌜ r ≡ packed (answer (encryptNumber (params n nbit bgbit l basebit t) Zero (Bit (isBit bit)) (length (now (masks .entry))) (now (key .entry)) (length (now (out .entry))))) ⌝ }
-    ensures written { λ r. ⌜ now (out .exit) ≡ ifDone (encryptNumber (params n nbit bgbit l basebit t) Zero (Bit (isBit bit)) (length (now (masks .entry))) (now (key .entry)) (length (now (out .entry)))) (encrypted (dimension (params n nbit bgbit l basebit t) Zero) (plainWord (Bit (isBit bit))) (now (masks .entry)) noise (now (key .entry))) (now (out .entry)) ⌝ }
+    ensures said { λ r. ⌜ r ≡ packed (answer (encryptNumber (numbers n nbit bgbit l basebit t) Zero (Bit (truth bit)) (length (now (masks .entry))) (now (key .entry)) (length (now (out .entry))))) ⌝ }
+    ensures written { λ r. ⌜ now (out .exit) ≡ ifDone (encryptNumber (numbers n nbit bgbit l basebit t) Zero (Bit (truth bit)) (length (now (masks .entry))) (now (key .entry)) (length (now (out .entry)))) (encrypted (dimension (numbers n nbit bgbit l basebit t) Zero) (plainWord (Bit (truth bit))) (now (masks .entry)) noise (now (key .entry))) (now (out .entry)) ⌝ }
 {
     pack(tlwe::encryption::encrypt(
         Params {
@@ -73,8 +75,8 @@ pub extern "C" fn egl_tlwe_encrypt_bit_lv1(
     key: &[u32],
     out: &mut [u32],
 ) -> u64
-    ensures said { λ r. ⌜ r ≡ packed (answer (encryptNumber (params n nbit bgbit l basebit t) One (Bit (isBit bit)) (length (now (masks .entry))) (now (key .entry)) (length (now (out .entry))))) ⌝ }
-    ensures written { λ r. ⌜ now (out .exit) ≡ ifDone (encryptNumber (params n nbit bgbit l basebit t) One (Bit (isBit bit)) (length (now (masks .entry))) (now (key .entry)) (length (now (out .entry)))) (encrypted (dimension (params n nbit bgbit l basebit t) One) (plainWord (Bit (isBit bit))) (now (masks .entry)) noise (now (key .entry))) (now (out .entry)) ⌝ }
+    ensures said { λ r. ⌜ r ≡ packed (answer (encryptNumber (numbers n nbit bgbit l basebit t) One (Bit (truth bit)) (length (now (masks .entry))) (now (key .entry)) (length (now (out .entry))))) ⌝ }
+    ensures written { λ r. ⌜ now (out .exit) ≡ ifDone (encryptNumber (numbers n nbit bgbit l basebit t) One (Bit (truth bit)) (length (now (masks .entry))) (now (key .entry)) (length (now (out .entry)))) (encrypted (dimension (numbers n nbit bgbit l basebit t) One) (plainWord (Bit (truth bit))) (now (masks .entry)) noise (now (key .entry))) (now (out .entry)) ⌝ }
 {
     pack(tlwe::encryption::encrypt(
         Params {
@@ -109,8 +111,8 @@ pub extern "C" fn egl_tlwe_encrypt_turn_lv0(
     key: &[u32],
     out: &mut [u32],
 ) -> u64
-    ensures said { λ r. ⌜ r ≡ packed (answer (encryptNumber (params n nbit bgbit l basebit t) Zero (Turn turn) (length (now (masks .entry))) (now (key .entry)) (length (now (out .entry))))) ⌝ }
-    ensures written { λ r. ⌜ now (out .exit) ≡ ifDone (encryptNumber (params n nbit bgbit l basebit t) Zero (Turn turn) (length (now (masks .entry))) (now (key .entry)) (length (now (out .entry)))) (encrypted (dimension (params n nbit bgbit l basebit t) Zero) (plainWord (Turn turn)) (now (masks .entry)) noise (now (key .entry))) (now (out .entry)) ⌝ }
+    ensures said { λ r. ⌜ r ≡ packed (answer (encryptNumber (numbers n nbit bgbit l basebit t) Zero (Turn turn) (length (now (masks .entry))) (now (key .entry)) (length (now (out .entry))))) ⌝ }
+    ensures written { λ r. ⌜ now (out .exit) ≡ ifDone (encryptNumber (numbers n nbit bgbit l basebit t) Zero (Turn turn) (length (now (masks .entry))) (now (key .entry)) (length (now (out .entry)))) (encrypted (dimension (numbers n nbit bgbit l basebit t) Zero) (plainWord (Turn turn)) (now (masks .entry)) noise (now (key .entry))) (now (out .entry)) ⌝ }
 {
     pack(tlwe::encryption::encrypt(
         Params {
@@ -145,8 +147,8 @@ pub extern "C" fn egl_tlwe_encrypt_turn_lv1(
     key: &[u32],
     out: &mut [u32],
 ) -> u64
-    ensures said { λ r. ⌜ r ≡ packed (answer (encryptNumber (params n nbit bgbit l basebit t) One (Turn turn) (length (now (masks .entry))) (now (key .entry)) (length (now (out .entry))))) ⌝ }
-    ensures written { λ r. ⌜ now (out .exit) ≡ ifDone (encryptNumber (params n nbit bgbit l basebit t) One (Turn turn) (length (now (masks .entry))) (now (key .entry)) (length (now (out .entry)))) (encrypted (dimension (params n nbit bgbit l basebit t) One) (plainWord (Turn turn)) (now (masks .entry)) noise (now (key .entry))) (now (out .entry)) ⌝ }
+    ensures said { λ r. ⌜ r ≡ packed (answer (encryptNumber (numbers n nbit bgbit l basebit t) One (Turn turn) (length (now (masks .entry))) (now (key .entry)) (length (now (out .entry))))) ⌝ }
+    ensures written { λ r. ⌜ now (out .exit) ≡ ifDone (encryptNumber (numbers n nbit bgbit l basebit t) One (Turn turn) (length (now (masks .entry))) (now (key .entry)) (length (now (out .entry)))) (encrypted (dimension (numbers n nbit bgbit l basebit t) One) (plainWord (Turn turn)) (now (masks .entry)) noise (now (key .entry))) (now (out .entry)) ⌝ }
 {
     pack(tlwe::encryption::encrypt(
         Params {
@@ -182,8 +184,8 @@ pub extern "C" fn egl_tlwe_encrypt_message_lv0(
     key: &[u32],
     out: &mut [u32],
 ) -> u64
-    ensures said { λ r. ⌜ r ≡ packed (answer (encryptNumber (params n nbit bgbit l basebit t) Zero (Message value modulus) (length (now (masks .entry))) (now (key .entry)) (length (now (out .entry))))) ⌝ }
-    ensures written { λ r. ⌜ now (out .exit) ≡ ifDone (encryptNumber (params n nbit bgbit l basebit t) Zero (Message value modulus) (length (now (masks .entry))) (now (key .entry)) (length (now (out .entry)))) (encrypted (dimension (params n nbit bgbit l basebit t) Zero) (plainWord (Message value modulus)) (now (masks .entry)) noise (now (key .entry))) (now (out .entry)) ⌝ }
+    ensures said { λ r. ⌜ r ≡ packed (answer (encryptNumber (numbers n nbit bgbit l basebit t) Zero (Message value modulus) (length (now (masks .entry))) (now (key .entry)) (length (now (out .entry))))) ⌝ }
+    ensures written { λ r. ⌜ now (out .exit) ≡ ifDone (encryptNumber (numbers n nbit bgbit l basebit t) Zero (Message value modulus) (length (now (masks .entry))) (now (key .entry)) (length (now (out .entry)))) (encrypted (dimension (numbers n nbit bgbit l basebit t) Zero) (plainWord (Message value modulus)) (now (masks .entry)) noise (now (key .entry))) (now (out .entry)) ⌝ }
 {
     pack(tlwe::encryption::encrypt(
         Params {
@@ -219,8 +221,8 @@ pub extern "C" fn egl_tlwe_encrypt_message_lv1(
     key: &[u32],
     out: &mut [u32],
 ) -> u64
-    ensures said { λ r. ⌜ r ≡ packed (answer (encryptNumber (params n nbit bgbit l basebit t) One (Message value modulus) (length (now (masks .entry))) (now (key .entry)) (length (now (out .entry))))) ⌝ }
-    ensures written { λ r. ⌜ now (out .exit) ≡ ifDone (encryptNumber (params n nbit bgbit l basebit t) One (Message value modulus) (length (now (masks .entry))) (now (key .entry)) (length (now (out .entry)))) (encrypted (dimension (params n nbit bgbit l basebit t) One) (plainWord (Message value modulus)) (now (masks .entry)) noise (now (key .entry))) (now (out .entry)) ⌝ }
+    ensures said { λ r. ⌜ r ≡ packed (answer (encryptNumber (numbers n nbit bgbit l basebit t) One (Message value modulus) (length (now (masks .entry))) (now (key .entry)) (length (now (out .entry))))) ⌝ }
+    ensures written { λ r. ⌜ now (out .exit) ≡ ifDone (encryptNumber (numbers n nbit bgbit l basebit t) One (Message value modulus) (length (now (masks .entry))) (now (key .entry)) (length (now (out .entry)))) (encrypted (dimension (numbers n nbit bgbit l basebit t) One) (plainWord (Message value modulus)) (now (masks .entry)) noise (now (key .entry))) (now (out .entry)) ⌝ }
 {
     pack(tlwe::encryption::encrypt(
         Params {
@@ -252,7 +254,7 @@ pub extern "C" fn egl_tlwe_decrypt_bit_lv0(
     c: &[u32],
     key: &[u32],
 ) -> u64
-    ensures { λ r. ⌜ r ≡ packedWith (answer (keyedNumber (params n nbit bgbit l basebit t) Zero (length (now (c .entry))) (now (key .entry)) 0)) (bitNumber (ifDone (keyedNumber (params n nbit bgbit l basebit t) Zero (length (now (c .entry))) (now (key .entry)) 0) (bitOf (phaseOf (dimension (params n nbit bgbit l basebit t) Zero) (now (key .entry)) (now (c .entry)))) false)) ⌝ }
+    ensures { λ r. ⌜ r ≡ packedWith (answer (keyedNumber (numbers n nbit bgbit l basebit t) Zero (length (now (c .entry))) (now (key .entry)) 0)) (bitNumber (ifDone (keyedNumber (numbers n nbit bgbit l basebit t) Zero (length (now (c .entry))) (now (key .entry)) 0) (bitOf (phaseOf (dimension (numbers n nbit bgbit l basebit t) Zero) (now (key .entry)) (now (c .entry)))) false)) ⌝ }
 {
     let d = tlwe::decryption::decrypt_bit(
         Params {
@@ -285,7 +287,7 @@ pub extern "C" fn egl_tlwe_decrypt_message_lv0(
     c: &[u32],
     key: &[u32],
 ) -> u64
-    ensures { λ r. ⌜ r ≡ packedWith (answer (keyedNumber (params n nbit bgbit l basebit t) Zero (length (now (c .entry))) (now (key .entry)) (modulusNumber modulus))) (ifDone (keyedNumber (params n nbit bgbit l basebit t) Zero (length (now (c .entry))) (now (key .entry)) (modulusNumber modulus)) (messageOf modulus (phaseOf (dimension (params n nbit bgbit l basebit t) Zero) (now (key .entry)) (now (c .entry)))) 0 % Q) ⌝ }
+    ensures { λ r. ⌜ r ≡ packedWith (answer (keyedNumber (numbers n nbit bgbit l basebit t) Zero (length (now (c .entry))) (now (key .entry)) (modulusNumber modulus))) (ifDone (keyedNumber (numbers n nbit bgbit l basebit t) Zero (length (now (c .entry))) (now (key .entry)) (modulusNumber modulus)) (messageOf modulus (phaseOf (dimension (numbers n nbit bgbit l basebit t) Zero) (now (key .entry)) (now (c .entry)))) 0 % Q) ⌝ }
 {
     let d = tlwe::decryption::decrypt_message(
         Params {
@@ -318,7 +320,7 @@ pub extern "C" fn egl_tlwe_decrypt_bit_lv1(
     c: &[u32],
     key: &[u32],
 ) -> u64
-    ensures { λ r. ⌜ r ≡ packedWith (answer (keyedNumber (params n nbit bgbit l basebit t) One (length (now (c .entry))) (now (key .entry)) 0)) (bitNumber (ifDone (keyedNumber (params n nbit bgbit l basebit t) One (length (now (c .entry))) (now (key .entry)) 0) (bitOf (phaseOf (dimension (params n nbit bgbit l basebit t) One) (now (key .entry)) (now (c .entry)))) false)) ⌝ }
+    ensures { λ r. ⌜ r ≡ packedWith (answer (keyedNumber (numbers n nbit bgbit l basebit t) One (length (now (c .entry))) (now (key .entry)) 0)) (bitNumber (ifDone (keyedNumber (numbers n nbit bgbit l basebit t) One (length (now (c .entry))) (now (key .entry)) 0) (bitOf (phaseOf (dimension (numbers n nbit bgbit l basebit t) One) (now (key .entry)) (now (c .entry)))) false)) ⌝ }
 {
     let d = tlwe::decryption::decrypt_bit(
         Params {
@@ -351,7 +353,7 @@ pub extern "C" fn egl_tlwe_decrypt_message_lv1(
     c: &[u32],
     key: &[u32],
 ) -> u64
-    ensures { λ r. ⌜ r ≡ packedWith (answer (keyedNumber (params n nbit bgbit l basebit t) One (length (now (c .entry))) (now (key .entry)) (modulusNumber modulus))) (ifDone (keyedNumber (params n nbit bgbit l basebit t) One (length (now (c .entry))) (now (key .entry)) (modulusNumber modulus)) (messageOf modulus (phaseOf (dimension (params n nbit bgbit l basebit t) One) (now (key .entry)) (now (c .entry)))) 0 % Q) ⌝ }
+    ensures { λ r. ⌜ r ≡ packedWith (answer (keyedNumber (numbers n nbit bgbit l basebit t) One (length (now (c .entry))) (now (key .entry)) (modulusNumber modulus))) (ifDone (keyedNumber (numbers n nbit bgbit l basebit t) One (length (now (c .entry))) (now (key .entry)) (modulusNumber modulus)) (messageOf modulus (phaseOf (dimension (numbers n nbit bgbit l basebit t) One) (now (key .entry)) (now (c .entry)))) 0 % Q) ⌝ }
 {
     let d = tlwe::decryption::decrypt_message(
         Params {

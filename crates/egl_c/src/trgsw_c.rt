@@ -4,9 +4,10 @@ ghost use lib.ListN.{length};
 ghost use Rattle.params.specs.Refusal.{answer};
 ghost use Rattle.decomposition.specs.Pair.{decompositionNumber, decompositionOut};
 ghost use Rattle.trgsw.specs.Refusals.{externalNumber, externalOut, cmuxNumber, cmuxOut};
-ghost use Rattle.egl_c.specs.Packed.{packed, params};
+ghost use Rattle.egl_c.specs.Packed.{packed};
 use super::pack;
 use params::Params;
+ghost use Rattle.params.specs.Published.{numbers};
 
 // The 2L digit polynomials of the pair (a, b), in order. Refusals: 1, 2.
 #[no_mangle]
@@ -21,8 +22,8 @@ pub extern "C" fn egl_trgsw_decomposition(
     b: &[u32],
     out: &mut [u32],
 ) -> u64
-    ensures said { λ r. ⌜ r ≡ packed (answer (decompositionNumber (params n nbit bgbit l basebit t) (length (now (a .entry))) (length (now (b .entry))) (length (now (out .entry))))) ⌝ }
-    ensures written { λ r. ⌜ now (out .exit) ≡ decompositionOut (params n nbit bgbit l basebit t) (now (a .entry)) (now (b .entry)) (now (out .entry)) ⌝ }
+    ensures said { λ r. ⌜ r ≡ packed (answer (decompositionNumber (numbers n nbit bgbit l basebit t) (length (now (a .entry))) (length (now (b .entry))) (length (now (out .entry))))) ⌝ }
+    ensures written { λ r. ⌜ now (out .exit) ≡ decompositionOut (numbers n nbit bgbit l basebit t) (now (a .entry)) (now (b .entry)) (now (out .entry)) ⌝ }
 {
     pack(decomposition::decomposition(
         Params {
@@ -54,9 +55,9 @@ pub extern "C" fn egl_trgsw_external_product(
     outa: &mut [u32],
     outb: &mut [u32],
 ) -> u64
-    ensures said { λ r. ⌜ r ≡ packed (answer (externalNumber (params n nbit bgbit l basebit t) (length (now (rows .entry))) (length (now (a .entry))) (length (now (b .entry))) (length (now (outa .entry))) (length (now (outb .entry))))) ⌝ }
-    ensures first { λ r. ⌜ now (outa .exit) ≡ externalOut (params n nbit bgbit l basebit t) (now (rows .entry)) (record { a = now (a .entry); b = now (b .entry) }) (record { a = now (outa .entry); b = now (outb .entry) }) .a ⌝ }
-    ensures second { λ r. ⌜ now (outb .exit) ≡ externalOut (params n nbit bgbit l basebit t) (now (rows .entry)) (record { a = now (a .entry); b = now (b .entry) }) (record { a = now (outa .entry); b = now (outb .entry) }) .b ⌝ }
+    ensures said { λ r. ⌜ r ≡ packed (answer (externalNumber (numbers n nbit bgbit l basebit t) (length (now (rows .entry))) (length (now (a .entry))) (length (now (b .entry))) (length (now (outa .entry))) (length (now (outb .entry))))) ⌝ }
+    ensures first { λ r. ⌜ now (outa .exit) ≡ externalOut (numbers n nbit bgbit l basebit t) (now (rows .entry)) (record { a = now (a .entry); b = now (b .entry) }) (record { a = now (outa .entry); b = now (outb .entry) }) .a ⌝ }
+    ensures second { λ r. ⌜ now (outb .exit) ≡ externalOut (numbers n nbit bgbit l basebit t) (now (rows .entry)) (record { a = now (a .entry); b = now (b .entry) }) (record { a = now (outa .entry); b = now (outb .entry) }) .b ⌝ }
 {
     pack(trgsw::external_product(
         Params {
@@ -92,9 +93,9 @@ pub extern "C" fn egl_trgsw_cmux(
     outa: &mut [u32],
     outb: &mut [u32],
 ) -> u64
-    ensures said { λ r. ⌜ r ≡ packed (answer (cmuxNumber (params n nbit bgbit l basebit t) (length (now (a1 .entry))) (length (now (b1 .entry))) (length (now (a2 .entry))) (length (now (b2 .entry))) (length (now (rows .entry))) (length (now (outa .entry))) (length (now (outb .entry))))) ⌝ }
-    ensures first { λ r. ⌜ now (outa .exit) ≡ cmuxOut (params n nbit bgbit l basebit t) (now (rows .entry)) (record { a = now (a1 .entry); b = now (b1 .entry) }) (record { a = now (a2 .entry); b = now (b2 .entry) }) (record { a = now (outa .entry); b = now (outb .entry) }) .a ⌝ }
-    ensures second { λ r. ⌜ now (outb .exit) ≡ cmuxOut (params n nbit bgbit l basebit t) (now (rows .entry)) (record { a = now (a1 .entry); b = now (b1 .entry) }) (record { a = now (a2 .entry); b = now (b2 .entry) }) (record { a = now (outa .entry); b = now (outb .entry) }) .b ⌝ }
+    ensures said { λ r. ⌜ r ≡ packed (answer (cmuxNumber (numbers n nbit bgbit l basebit t) (length (now (a1 .entry))) (length (now (b1 .entry))) (length (now (a2 .entry))) (length (now (b2 .entry))) (length (now (rows .entry))) (length (now (outa .entry))) (length (now (outb .entry))))) ⌝ }
+    ensures first { λ r. ⌜ now (outa .exit) ≡ cmuxOut (numbers n nbit bgbit l basebit t) (now (rows .entry)) (record { a = now (a1 .entry); b = now (b1 .entry) }) (record { a = now (a2 .entry); b = now (b2 .entry) }) (record { a = now (outa .entry); b = now (outb .entry) }) .a ⌝ }
+    ensures second { λ r. ⌜ now (outb .exit) ≡ cmuxOut (numbers n nbit bgbit l basebit t) (now (rows .entry)) (record { a = now (a1 .entry); b = now (b1 .entry) }) (record { a = now (a2 .entry); b = now (b2 .entry) }) (record { a = now (outa .entry); b = now (outb .entry) }) .b ⌝ }
 {
     pack(trgsw::cmux(
         Params {

@@ -3,13 +3,14 @@ ghost use mathlib.Core.Path.{_≡_};
 ghost use lib.ListN.{length};
 ghost use Rattle.params.specs.Refusal.{answer, ifDone};
 ghost use Rattle.params.specs.Sizes.{size};
-ghost use Rattle.utils.specs.Torus.{words};
+ghost use Rattle.utils.specs.Torus.{wordsOfDoubles};
 ghost use Rattle.trlwe.specs.Extract.{extractNumber, extractOut};
-ghost use Rattle.trlwe.specs.Encrypt.{encryptNumber, freshBody, bitWords};
-ghost use Rattle.trlwe.specs.Decrypt.{decryptNumber, decryptOut};
-ghost use Rattle.egl_c.specs.Packed.{packed, params};
+ghost use Rattle.trlwe.specs.Encrypt.{encryptPairNumber, freshBody, wordsOfBits};
+ghost use Rattle.trlwe.specs.Decrypt.{decryptPairNumber, decryptOut};
+ghost use Rattle.egl_c.specs.Packed.{packed};
 use super::pack;
 use params::Params;
+ghost use Rattle.params.specs.Published.{numbers};
 
 // Encryption of N doubles, fractions of a turn: `TRLWELv1::encrypt_f64`.
 #[no_mangle]
@@ -27,9 +28,9 @@ pub extern "C" fn egl_trlwe_encrypt_f64(
     a: &mut [u32],
     b: &mut [u32],
 ) -> u64
-    ensures said { λ r. ⌜ r ≡ packed (answer (encryptNumber (params n nbit bgbit l basebit t) (length (now (plain .entry))) (length (now (masks .entry))) (length (now (noise .entry))) (now (key .entry)) (length (now (a .entry))) (length (now (b .entry))))) ⌝ }
-    ensures mask { λ r. ⌜ now (a .exit) ≡ ifDone (encryptNumber (params n nbit bgbit l basebit t) (length (now (plain .entry))) (length (now (masks .entry))) (length (now (noise .entry))) (now (key .entry)) (length (now (a .entry))) (length (now (b .entry)))) (now (masks .entry)) (now (a .entry)) ⌝ }
-    ensures body { λ r. ⌜ now (b .exit) ≡ ifDone (encryptNumber (params n nbit bgbit l basebit t) (length (now (plain .entry))) (length (now (masks .entry))) (length (now (noise .entry))) (now (key .entry)) (length (now (a .entry))) (length (now (b .entry)))) (freshBody (size (params n nbit bgbit l basebit t)) (words (now (plain .entry))) (now (noise .entry)) (now (masks .entry)) (now (key .entry))) (now (b .entry)) ⌝ }
+    ensures said { λ r. ⌜ r ≡ packed (answer (encryptPairNumber (numbers n nbit bgbit l basebit t) (length (now (plain .entry))) (length (now (masks .entry))) (length (now (noise .entry))) (now (key .entry)) (length (now (a .entry))) (length (now (b .entry))))) ⌝ }
+    ensures mask { λ r. ⌜ now (a .exit) ≡ ifDone (encryptPairNumber (numbers n nbit bgbit l basebit t) (length (now (plain .entry))) (length (now (masks .entry))) (length (now (noise .entry))) (now (key .entry)) (length (now (a .entry))) (length (now (b .entry)))) (now (masks .entry)) (now (a .entry)) ⌝ }
+    ensures body { λ r. ⌜ now (b .exit) ≡ ifDone (encryptPairNumber (numbers n nbit bgbit l basebit t) (length (now (plain .entry))) (length (now (masks .entry))) (length (now (noise .entry))) (now (key .entry)) (length (now (a .entry))) (length (now (b .entry)))) (freshBody (size (numbers n nbit bgbit l basebit t)) (wordsOfDoubles (now (plain .entry))) (now (noise .entry)) (now (masks .entry)) (now (key .entry))) (now (b .entry)) ⌝ }
 {
     pack(trlwe::encrypt_f64(
         Params {
@@ -65,9 +66,9 @@ pub extern "C" fn egl_trlwe_encrypt_bool(
     a: &mut [u32],
     b: &mut [u32],
 ) -> u64
-    ensures said { λ r. ⌜ r ≡ packed (answer (encryptNumber (params n nbit bgbit l basebit t) (length (now (plain .entry))) (length (now (masks .entry))) (length (now (noise .entry))) (now (key .entry)) (length (now (a .entry))) (length (now (b .entry))))) ⌝ }
-    ensures mask { λ r. ⌜ now (a .exit) ≡ ifDone (encryptNumber (params n nbit bgbit l basebit t) (length (now (plain .entry))) (length (now (masks .entry))) (length (now (noise .entry))) (now (key .entry)) (length (now (a .entry))) (length (now (b .entry)))) (now (masks .entry)) (now (a .entry)) ⌝ }
-    ensures body { λ r. ⌜ now (b .exit) ≡ ifDone (encryptNumber (params n nbit bgbit l basebit t) (length (now (plain .entry))) (length (now (masks .entry))) (length (now (noise .entry))) (now (key .entry)) (length (now (a .entry))) (length (now (b .entry)))) (freshBody (size (params n nbit bgbit l basebit t)) (bitWords (now (plain .entry))) (now (noise .entry)) (now (masks .entry)) (now (key .entry))) (now (b .entry)) ⌝ }
+    ensures said { λ r. ⌜ r ≡ packed (answer (encryptPairNumber (numbers n nbit bgbit l basebit t) (length (now (plain .entry))) (length (now (masks .entry))) (length (now (noise .entry))) (now (key .entry)) (length (now (a .entry))) (length (now (b .entry))))) ⌝ }
+    ensures mask { λ r. ⌜ now (a .exit) ≡ ifDone (encryptPairNumber (numbers n nbit bgbit l basebit t) (length (now (plain .entry))) (length (now (masks .entry))) (length (now (noise .entry))) (now (key .entry)) (length (now (a .entry))) (length (now (b .entry)))) (now (masks .entry)) (now (a .entry)) ⌝ }
+    ensures body { λ r. ⌜ now (b .exit) ≡ ifDone (encryptPairNumber (numbers n nbit bgbit l basebit t) (length (now (plain .entry))) (length (now (masks .entry))) (length (now (noise .entry))) (now (key .entry)) (length (now (a .entry))) (length (now (b .entry)))) (freshBody (size (numbers n nbit bgbit l basebit t)) (wordsOfBits (now (plain .entry))) (now (noise .entry)) (now (masks .entry)) (now (key .entry))) (now (b .entry)) ⌝ }
 {
     pack(trlwe::encrypt_bool(
         Params {
@@ -101,8 +102,8 @@ pub extern "C" fn egl_trlwe_decrypt_bool(
     key: &[u32],
     out: &mut [u8],
 ) -> u64
-    ensures said { λ r. ⌜ r ≡ packed (answer (decryptNumber (params n nbit bgbit l basebit t) (length (now (a .entry))) (length (now (b .entry))) (now (key .entry)) (length (now (out .entry))))) ⌝ }
-    ensures written { λ r. ⌜ now (out .exit) ≡ decryptOut (params n nbit bgbit l basebit t) (now (a .entry)) (now (b .entry)) (now (key .entry)) (now (out .entry)) ⌝ }
+    ensures said { λ r. ⌜ r ≡ packed (answer (decryptPairNumber (numbers n nbit bgbit l basebit t) (length (now (a .entry))) (length (now (b .entry))) (now (key .entry)) (length (now (out .entry))))) ⌝ }
+    ensures written { λ r. ⌜ now (out .exit) ≡ decryptOut (numbers n nbit bgbit l basebit t) (now (a .entry)) (now (b .entry)) (now (key .entry)) (now (out .entry)) ⌝ }
 {
     pack(trlwe::decrypt_bool(
         Params {
@@ -134,8 +135,8 @@ pub extern "C" fn egl_trlwe_sample_extract_index(
     k: usize,
     out: &mut [u32],
 ) -> u64
-    ensures said { λ r. ⌜ r ≡ packed (answer (extractNumber (params n nbit bgbit l basebit t) (length (now (a .entry))) (length (now (b .entry))) k (length (now (out .entry))))) ⌝ }
-    ensures written { λ r. ⌜ now (out .exit) ≡ extractOut (params n nbit bgbit l basebit t) (now (a .entry)) (now (b .entry)) k (now (out .entry)) ⌝ }
+    ensures said { λ r. ⌜ r ≡ packed (answer (extractNumber (numbers n nbit bgbit l basebit t) (length (now (a .entry))) (length (now (b .entry))) k (length (now (out .entry))))) ⌝ }
+    ensures written { λ r. ⌜ now (out .exit) ≡ extractOut (numbers n nbit bgbit l basebit t) (now (a .entry)) (now (b .entry)) k (now (out .entry)) ⌝ }
 {
     pack(trlwe::sample_extract_index(
         Params {

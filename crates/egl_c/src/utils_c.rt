@@ -5,7 +5,7 @@ ghost use lib.Ieee.Exact.{HasValue};
 ghost use lib.ListN.{length};
 ghost use Rattle.ring.specs.Word.{Q};
 ghost use Rattle.params.specs.Refusal.{answer, ifDone};
-ghost use Rattle.utils.specs.Torus.{word, words, vecNumber};
+ghost use Rattle.utils.specs.Torus.{word, wordsOfDoubles, vecNumber};
 ghost use Rattle.egl_c.specs.Packed.{packed};
 use super::pack;
 
@@ -29,7 +29,7 @@ pub extern "C" fn egl_utils_torus_to_f64(t: u32) -> f64
 #[no_mangle]
 pub extern "C" fn egl_utils_f64_to_torus_vec(d: &[f64], out: &mut [u32]) -> u64
     ensures said { λ r. ⌜ r ≡ packed (answer (vecNumber (length (now (d .entry))) (length (now (out .entry))))) ⌝ }
-    ensures written { λ r. ⌜ now (out .exit) ≡ ifDone (vecNumber (length (now (d .entry))) (length (now (out .entry)))) (words (now (d .entry))) (now (out .entry)) ⌝ }
+    ensures written { λ r. ⌜ now (out .exit) ≡ ifDone (vecNumber (length (now (d .entry))) (length (now (out .entry)))) (wordsOfDoubles (now (d .entry))) (now (out .entry)) ⌝ }
 {
     pack(utils::f64_to_torus_vec(d, out))
 }

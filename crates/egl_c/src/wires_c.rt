@@ -7,9 +7,11 @@ ghost use Rattle.tlwe.specs.Linear.{linearNumber, negative};
 ghost use Rattle.tlwe.specs.declared.Level.the-variants.{Zero};
 ghost use Rattle.gates.specs.Refusals.{constantNumber};
 ghost use Rattle.gates.specs.Sum.{constantOf};
-ghost use Rattle.egl_c.specs.Packed.{packed, params, isBit};
+ghost use Rattle.egl_c.specs.Packed.{packed};
 use super::pack;
 use params::Params;
+ghost use Rattle.params.specs.Published.{numbers};
+ghost use Rattle.ring.specs.Bit.{truth};
 
 // Each word negated: `Neg` of src/tlwe.rs, so no rotation is needed.
 #[no_mangle]
@@ -23,8 +25,8 @@ pub extern "C" fn egl_gates_not(
     a: &[u32],
     out: &mut [u32],
 ) -> u64
-    ensures said { λ r. ⌜ r ≡ packed (answer (linearNumber (params n nbit bgbit l basebit t) Zero (length (now (a .entry))) (length (now (a .entry))) (length (now (out .entry))))) ⌝ }
-    ensures written { λ r. ⌜ now (out .exit) ≡ ifDone (linearNumber (params n nbit bgbit l basebit t) Zero (length (now (a .entry))) (length (now (a .entry))) (length (now (out .entry)))) (negative ((params n nbit bgbit l basebit t) .n + 1) (now (a .entry))) (now (out .entry)) ⌝ }
+    ensures said { λ r. ⌜ r ≡ packed (answer (linearNumber (numbers n nbit bgbit l basebit t) Zero (length (now (a .entry))) (length (now (a .entry))) (length (now (out .entry))))) ⌝ }
+    ensures written { λ r. ⌜ now (out .exit) ≡ ifDone (linearNumber (numbers n nbit bgbit l basebit t) Zero (length (now (a .entry))) (length (now (a .entry))) (length (now (out .entry)))) (negative ((numbers n nbit bgbit l basebit t) .n + 1) (now (a .entry))) (now (out .entry)) ⌝ }
 {
     pack(gates::wires::not(
         Params {
@@ -52,8 +54,8 @@ pub extern "C" fn egl_gates_copy(
     a: &[u32],
     out: &mut [u32],
 ) -> u64
-    ensures said { λ r. ⌜ r ≡ packed (answer (linearNumber (params n nbit bgbit l basebit t) Zero (length (now (a .entry))) (length (now (a .entry))) (length (now (out .entry))))) ⌝ }
-    ensures written { λ r. ⌜ now (out .exit) ≡ ifDone (linearNumber (params n nbit bgbit l basebit t) Zero (length (now (a .entry))) (length (now (a .entry))) (length (now (out .entry)))) (now (a .entry)) (now (out .entry)) ⌝ }
+    ensures said { λ r. ⌜ r ≡ packed (answer (linearNumber (numbers n nbit bgbit l basebit t) Zero (length (now (a .entry))) (length (now (a .entry))) (length (now (out .entry))))) ⌝ }
+    ensures written { λ r. ⌜ now (out .exit) ≡ ifDone (linearNumber (numbers n nbit bgbit l basebit t) Zero (length (now (a .entry))) (length (now (a .entry))) (length (now (out .entry)))) (now (a .entry)) (now (out .entry)) ⌝ }
 {
     pack(gates::wires::copy(
         Params {
@@ -81,8 +83,8 @@ pub extern "C" fn egl_gates_constant(
     bit: u32,
     out: &mut [u32],
 ) -> u64
-    ensures said { λ r. ⌜ r ≡ packed (answer (constantNumber (params n nbit bgbit l basebit t) (length (now (out .entry))))) ⌝ }
-    ensures written { λ r. ⌜ now (out .exit) ≡ ifDone (constantNumber (params n nbit bgbit l basebit t) (length (now (out .entry)))) (constantOf (params n nbit bgbit l basebit t) (isBit bit)) (now (out .entry)) ⌝ }
+    ensures said { λ r. ⌜ r ≡ packed (answer (constantNumber (numbers n nbit bgbit l basebit t) (length (now (out .entry))))) ⌝ }
+    ensures written { λ r. ⌜ now (out .exit) ≡ ifDone (constantNumber (numbers n nbit bgbit l basebit t) (length (now (out .entry)))) (constantOf (numbers n nbit bgbit l basebit t) (truth bit)) (now (out .entry)) ⌝ }
 {
     pack(gates::wires::constant(
         Params {

@@ -2,7 +2,7 @@
 -- the gates done one by one make the run. What stands before a gate is kept by the gates after it.
 -- Assumes nothing.
 use mathlib.Core.Path.{_≡_, refl, sym, ap, _∙_}
-use mathlib.Core.Bool.{Bool}
+use mathlib.Core.Bool.{Bool, cond}
 use mathlib.Core.Logic.{⊎-elim}
 use mathlib.Core.List.{List, _++_}
 use Prim.Native.Nat.{ℕ, zero, suc, _+_, _*_, _-_, _≤_, _<_}
@@ -15,7 +15,6 @@ use lib.ListN.{length, take, drop, length-append, length-drop}
 use lib.Seq.{drop-at, drop-append-le, take-append-le, take-all}
 use Rattle.params.specs.declared.Params.{Params}
 use Rattle.params.specs.declared.Answer.{Answer}
-use Rattle.params.specs.Refusal.{pick}
 use Rattle.params.proofs.Answers.{when-done}
 use Rattle.key.proofs.Joins.{joined-part}
 use Rattle.circuit.specs.Kinds.{kindOf}
@@ -188,7 +187,7 @@ module _ (p : Params) (ksk bsk bs ws : List ℕ) (good : StepGood p (length ksk)
       let done = step-done p (length ksk) (length bsk) bs (length (so-far n)) (record { keys = good .keys; valid = good .valid; wires-length = same-length n k ∙ good .wires-length }) in
       ap (stepAfter p ksk bsk bs n) (called-are n k)
       ∙ when-done _ _ _ (ap (λ (a : Answer). a .number) done)
-      ∙ ap (λ (b : Bool). pick b (stepped p ksk bsk bs n (so-far n)) (so-far n)) (lt-ltb n (gates bs) l)
+      ∙ ap (λ (b : Bool). cond b (stepped p ksk bsk bs n (so-far n)) (so-far n)) (lt-ltb n (gates bs) l)
       ∙ run-more p ksk bsk bs ws inputs-fit n refl
       ∙ ap (λ (m : ℕ). ciphersTo p ksk bsk bs (take (inputs bs * (p .n + 1)) ws) m ++ drop ((inputs bs + m) * (p .n + 1)) ws) (add-one n)
 

@@ -9,11 +9,11 @@ use lib.Dec.{T}
 use Rattle.gates.specs.Kind.{meaning}
 use Rattle.circuit.specs.Kinds.{kinds, kindOf}
 use Rattle.circuit.proofs.Table.{both, both-left, both-right, same, same-is, entry}
-use Rattle.encrypted_run.specs.Ways.{ways, wayOf, meant}
+use Rattle.encrypted_run.specs.Ways.{ways, wayOf, wayMeaning}
 
 -- one kind, on these bits
 at-bits : ℕ → Bool → Bool → Bool → Bool
-at-bits k a b c = same (meant (wayOf k) a b c) (kindOf k .meaning a b c)
+at-bits k a b c = same (wayMeaning (wayOf k) a b c) (kindOf k .meaning a b c)
 
 -- one kind, on every c, then every b, then every a
 on-c : ℕ → Bool → Bool → Bool
@@ -41,9 +41,9 @@ pick-a k true t = both-left (on-b k true) (on-b k false) t
 pick-a k false t = both-right (on-b k true) (on-b k false) t
 
 every-kind : (k : ℕ) → k ≤ 13 → T (on-a k)
-unfolding on-a on-b on-c at-bits meant wayOf ways kindOf kinds xor
+unfolding on-a on-b on-c at-bits wayMeaning wayOf ways kindOf kinds xor
 every-kind k h = entry (λ j x. on-a j) (0 ∷ 0 ∷ 0 ∷ 0 ∷ 0 ∷ 0 ∷ 0 ∷ 0 ∷ 0 ∷ 0 ∷ 0 ∷ 0 ∷ 0 ∷ 0 ∷ []) tt k (omega arith)
 
-pub ways-mean : (k : ℕ) (a b c : Bool) → k ≤ 13 → meant (wayOf k) a b c ≡ kindOf k .meaning a b c
+pub ways-mean : (k : ℕ) (a b c : Bool) → k ≤ 13 → wayMeaning (wayOf k) a b c ≡ kindOf k .meaning a b c
 unfolding at-bits
-ways-mean k a b c h = same-is (meant (wayOf k) a b c) (kindOf k .meaning a b c) (pick-c k a b c (pick-b k a b (pick-a k a (every-kind k h))))
+ways-mean k a b c h = same-is (wayMeaning (wayOf k) a b c) (kindOf k .meaning a b c) (pick-c k a b c (pick-b k a b (pick-a k a (every-kind k h))))

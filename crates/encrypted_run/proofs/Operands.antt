@@ -1,7 +1,7 @@
 -- What a gate of a valid circuit reads: the operands that its kind needs, each below its own wire. The numbers of operands are tested over the table of kinds.
 -- Assumes nothing.
 use mathlib.Core.Path.{_≡_, refl, sym, ap, _∙_}
-use mathlib.Core.Bool.{Bool}
+use mathlib.Core.Bool.{Bool, cond}
 use mathlib.Core.List.{List}
 use Prim.Native.Nat.{ℕ, zero, suc, _+_, _*_, _≤_, _<_}
 use native.Mathlib.Omega.{arith}
@@ -9,7 +9,6 @@ use borrow.Author.Tests.{lt-ltb}
 use lib.Dec.{leb, ltb, eqb, eqb→eq, leb→le, lit<}
 use lib.ListN.{getD, take}
 use Rattle.params.specs.declared.Params.{Params}
-use Rattle.params.specs.Refusal.{pick}
 use Rattle.circuit.specs.declared.Shape.{Shape}
 use Rattle.circuit.specs.Kinds.{kinds, kindOf}
 use Rattle.circuit.specs.Form.{inputs, gates, outputs, kindAt, operandAt, countsOf}
@@ -73,7 +72,7 @@ unfolding countsOf
 outputs-are bs e = ap (λ (s : Shape). s .outputs) e
 
 -- a field of something that there is
-pub there : {x : ℕ} (i n v : ℕ) → i < n → x ≡ pick (ltb i n) v 0 → x ≡ v
+pub there : {x : ℕ} (i n v : ℕ) → i < n → x ≡ cond (ltb i n) v 0 → x ≡ v
 there i n v h e = e ∙ rw (lt-ltb i n h)
 
 module _ (p : Params) (bs : List ℕ) (v : Valid bs) (g : ℕ) (l : g < gates bs) where

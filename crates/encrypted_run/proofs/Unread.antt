@@ -15,7 +15,7 @@ use Rattle.ring.proofs.SumLaws.{sum-ext}
 use Rattle.params.specs.declared.Params.{Params}
 use Rattle.params.specs.Sizes.{size}
 use Rattle.key.specs.Switching.{rowPart}
-use Rattle.switching.specs.Switched.{fieldAt, used, takes, startWord, switched}
+use Rattle.switching.specs.Switched.{maskField, used, takes, startWord, switched}
 use Rattle.tlwe.specs.Linear.{negative}
 use Rattle.gates.specs.declared.Kind.{Kind}
 use Rattle.gates.specs.declared.Kind.the-variants.{And, AndNy}
@@ -31,13 +31,13 @@ use Rattle.encrypted_run.specs.Rows.{RowsAlike, Alike, KeysAlike, GateAl
 
 -- one field: 0 takes nothing, and another takes the row that is alike
 field-alike : (p : Params) (ksk ksk′ sample : List ℕ) → RowsAlike p ksk ksk′ sample → (i j x : ℕ) → i < size p → j < p .t → x < p .n + 1
-    → takes p ksk i j (fieldAt p sample i j) x ≡ takes p ksk′ i j (fieldAt p sample i j) x
+    → takes p ksk i j (maskField p sample i j) x ≡ takes p ksk′ i j (maskField p sample i j) x
 unfolding takes used RowsAlike
-field-alike p ksk ksk′ sample h i j x hi hj hx = go (ℕ-discrete (fieldAt p sample i j) 0)
+field-alike p ksk ksk′ sample h i j x hi hj hx = go (ℕ-discrete (maskField p sample i j) 0)
   where
-    go : Dec (fieldAt p sample i j ≡ 0) → cond (eqb (fieldAt p sample i j) 0) 0 (neg (at (rowPart p ksk i j (fieldAt p sample i j)) x)) ≡ cond (eqb (fieldAt p sample i j) 0) 0 (neg (at (rowPart p ksk′ i j (fieldAt p sample i j)) x))
-    go (yes e) = rw (eq-eqb (fieldAt p sample i j) 0 e)
-    go (no d) = rw (ne-eqb (fieldAt p sample i j) 0 d) (ap neg (h i j x hi hj hx d))
+    go : Dec (maskField p sample i j ≡ 0) → cond (eqb (maskField p sample i j) 0) 0 (neg (at (rowPart p ksk i j (maskField p sample i j)) x)) ≡ cond (eqb (maskField p sample i j) 0) 0 (neg (at (rowPart p ksk′ i j (maskField p sample i j)) x))
+    go (yes e) = rw (eq-eqb (maskField p sample i j) 0 e)
+    go (no d) = rw (ne-eqb (maskField p sample i j) 0 d) (ap neg (h i j x hi hj hx d))
 
 -- a switching
 pub switched-alike : (p : Params) (ksk ksk′ sample : List ℕ) → RowsAlike p ksk ksk′ sample → switched p ksk sample ≡ switched p ksk′ sample

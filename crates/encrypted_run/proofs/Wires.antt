@@ -11,10 +11,10 @@ use lib.ListN.{length, take, drop, length-append, length-drop, take-append-drop,
 use lib.Seq.{length-take-le, take-at, drop-at, drop-drop}
 use borrow.Rule.Slice.PartMut.{putMid}
 use Rattle.params.specs.declared.Params.{Params}
-use Rattle.key.specs.Generation.{joined}
 use Rattle.circuit.specs.Form.{inputs, gates, wires}
 use Rattle.encrypted_run.specs.Run.{gateCipher, ciphersTo, ciphersOf, stepped}
 use Rattle.encrypted_run.proofs.Ciphers.{ran-length}
+use Rattle.ring.specs.Lists.{joined}
 
 -- ---- a list of m words in place w of lists of m words each
 

@@ -6,7 +6,7 @@ use Rattle.ring.specs.Word.{at}
 use Rattle.params.specs.declared.Params.{Params}
 use Rattle.params.specs.Sizes.{size}
 use Rattle.key.specs.Switching.{rowPart}
-use Rattle.switching.specs.Switched.{fieldAt}
+use Rattle.switching.specs.Switched.{maskField}
 use Rattle.gates.specs.declared.Kind.{Kind}
 use Rattle.gates.specs.declared.Kind.the-variants.{And, AndNy}
 use Rattle.gates.specs.Sum.{summed, muxSum}
@@ -20,8 +20,8 @@ use Rattle.encrypted_run.specs.Run.{cipherAt, ciphersTo}
 -- Two switching keys have the same words in every row that the sample's fields use: row (i, j, k) for field j of mask i being k, not 0.
 unfoldable pub RowsAlike : Params → List ℕ → List ℕ → List ℕ → Type 0
 RowsAlike p ksk ksk′ sample =
-    (i j x : ℕ) → i < size p → j < p .t → x < p .n + 1 → (fieldAt p sample i j ≡ 0 → ⊥)
-    → at (rowPart p ksk i j (fieldAt p sample i j)) x ≡ at (rowPart p ksk′ i j (fieldAt p sample i j)) x
+    (i j x : ℕ) → i < size p → j < p .t → x < p .n + 1 → (maskField p sample i j ≡ 0 → ⊥)
+    → at (rowPart p ksk i j (maskField p sample i j)) x ≡ at (rowPart p ksk′ i j (maskField p sample i j)) x
 
 -- A rotation goes through the whole bootstrapping key; its sample's switching uses the rows of its fields.
 abbrev pub Alike : Params → List ℕ → List ℕ → List ℕ → List ℕ → List ℕ → Type 0

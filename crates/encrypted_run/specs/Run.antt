@@ -4,11 +4,12 @@ use Prim.Native.Nat.{ℕ, zero, suc, _+_, _*_}
 use lib.Dec.{ltb}
 use lib.ListN.{length, take, drop}
 use Rattle.params.specs.declared.Params.{Params}
-use Rattle.params.specs.Refusal.{pick, ifDone}
-use Rattle.key.specs.Generation.{joined}
+use Rattle.params.specs.Refusal.{ifDone}
 use Rattle.circuit.specs.Form.{inputs, gates, outputs, kindAt, operandAt, outputAt}
 use Rattle.encrypted_run.specs.Ways.{wayOf, ran}
 use Rattle.encrypted_run.specs.Refusals.{encryptedAnswer, stepAnswer}
+use mathlib.Core.Bool.{cond}
+use Rattle.ring.specs.Lists.{joined}
 
 -- The ciphertext of wire w among ciphertexts one after another, n + 1 words each.
 unfoldable pub cipherAt : Params → List ℕ → ℕ → List ℕ
@@ -53,4 +54,4 @@ stepped p ksk bsk bs g ws =
 -- The wires' slice, which held ws, after one gate of a run; a circuit that has no gate g leaves it as it was.
 unfoldable pub stepAfter : Params → List ℕ → List ℕ → List ℕ → ℕ → List ℕ → List ℕ
 stepAfter p ksk bsk bs g ws =
-    ifDone (stepAnswer p (length ksk) (length bsk) bs (length ws) .number) (pick (ltb g (gates bs)) (stepped p ksk bsk bs g ws) ws) ws
+    ifDone (stepAnswer p (length ksk) (length bsk) bs (length ws) .number) (cond (ltb g (gates bs)) (stepped p ksk bsk bs g ws) ws) ws

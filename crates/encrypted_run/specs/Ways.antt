@@ -1,11 +1,10 @@
 -- How each kind of a circuit's gates is run on ciphertexts (01, 'Circuits' and gates): the rotations of its way, in order, and the ciphertext that is made of
 -- their samples.
-use mathlib.Core.Bool.{Bool, true, false, not}
+use mathlib.Core.Bool.{Bool, true, false, not, cond}
 use mathlib.Core.List.{List, [], _∷_, map}
 use Prim.Native.Nat.{ℕ, _+_}
 use lib.ListN.{getD}
 use Rattle.params.specs.declared.Params.{Params}
-use Rattle.params.specs.Refusal.{pick}
 use Rattle.tlwe.specs.Linear.{negative}
 use Rattle.switching.specs.Switched.{switched}
 use Rattle.gates.specs.declared.Kind.{Kind}
@@ -108,9 +107,9 @@ operandsOf (NegatedGate kind) = 2
 operandsOf Choice = 3
 
 -- What a way means on the bits of its operands: `ways-mean` of proofs/Meanings.antt shows that it is the meaning of the kind that goes this way.
-unfoldable pub meant : Way → Bool → Bool → Bool → Bool
-meant (Known bit) a b c = bit
-meant Negated a b c = not a
-meant (Gate kind) a b c = meaning kind a b
-meant (NegatedGate kind) a b c = not (meaning kind a b)
-meant Choice a b c = pick a b c
+unfoldable pub wayMeaning : Way → Bool → Bool → Bool → Bool
+wayMeaning (Known bit) a b c = bit
+wayMeaning Negated a b c = not a
+wayMeaning (Gate kind) a b c = meaning kind a b
+wayMeaning (NegatedGate kind) a b c = not (meaning kind a b)
+wayMeaning Choice a b c = cond a b c

@@ -5,7 +5,6 @@ ghost use Prim.Native.Nat.{_+_, _*_, _<_};
 ghost use lib.Dec.{ltb};
 ghost use lib.ListN.{length, take, drop};
 ghost use Rattle.params.specs.Ranges.{paramsNumber};
-ghost use Rattle.params.specs.Refusal.{pick};
 ghost use Rattle.circuit.specs.Form.{inputs, gates, outputs};
 ghost use Rattle.circuit.specs.Valid.{Valid};
 ghost use Rattle.encrypted_run.specs.Refusals.{StepGood, RunGood};
@@ -16,6 +15,7 @@ use crate::slices::put_front;
 use crate::ways::way_into;
 use crate::ways::way_of;
 use params::Params;
+ghost use mathlib.Core.Bool.{cond};
 
 // Gate g's ciphertext, from those of the wires before it.
 fn gate_into(
@@ -78,7 +78,7 @@ pub(crate) fn one_or_none(
     wires: &mut [u32],
 )
     requires { ⌜ StepGood p (length (now ksk)) (length (now bsk)) (now bytes) (length (now wires)) ⌝ }
-    ensures { λ _. ⌜ now (wires .exit) ≡ pick (ltb g (gates (now (bytes .entry)))) (stepped p (now (ksk .entry)) (now (bsk .entry)) (now (bytes .entry)) g (now (wires .entry))) (now (wires .entry)) ⌝ }
+    ensures { λ _. ⌜ now (wires .exit) ≡ cond (ltb g (gates (now (bytes .entry)))) (stepped p (now (ksk .entry)) (now (bsk .entry)) (now (bytes .entry)) g (now (wires .entry))) (now (wires .entry)) ⌝ }
 {
     let shape = circuit::counts(bytes);
     if g < shape.gates {

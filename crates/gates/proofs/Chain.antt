@@ -18,7 +18,6 @@ use Rattle.params.specs.Ranges.{paramsNumber}
 use Rattle.params.specs.Sizes.{size, switchingWords, bootstrappingWords}
 use Rattle.params.proofs.Answers.{when-done}
 use Rattle.params.proofs.Ranges.{in-range, size-from}
-use Rattle.decomposition.specs.Pair.{Pair}
 use Rattle.tlwe.specs.declared.Level.the-variants.{Zero}
 use Rattle.tlwe.specs.Linear.{linearNumber, negative}
 use Rattle.tlwe.proofs.Checks.{linear-done}
@@ -35,6 +34,7 @@ use Rattle.gates.specs.declared.Kind.the-variants.{Or, And, AndNy}
 use Rattle.gates.specs.Sum.{summed, muxSum}
 use Rattle.gates.specs.Refusals.{GateGood, MuxGood}
 use Rattle.gates.specs.Gate.{rotatedSample, bootstrapped, gated, muxed, muxedNaive}
+use Rattle.ring.specs.Pair.{Pair}
 
 -- ---- lengths
 

@@ -10,7 +10,7 @@ use lib.Dec.{eqb}
 use lib.ListN.{length, set, length-set}
 use lib.Seq.{getD-set-same, getD-set-other}
 use borrow.Author.Tests.{eq-eqb, ne-eqb}
-use Rattle.ring.specs.Word.{Q, at}
+use Rattle.ring.specs.Word.{Q, at, eighth}
 use Rattle.ring.specs.Sums.{tab}
 use Rattle.ring.specs.Poly.{plus, scale}
 use Rattle.ring.proofs.Tab.{at-tab, length-tab, tab-of}
@@ -18,7 +18,7 @@ use Rattle.params.specs.declared.Params.{Params}
 use Rattle.params.specs.Sizes.{size}
 use Rattle.gates.specs.declared.Kind.{Kind}
 use Rattle.gates.specs.declared.sums.Weights.{Weights}
-use Rattle.gates.specs.Kind.{weightsOf, eighth}
+use Rattle.gates.specs.Kind.{weightsOf}
 use Rattle.gates.specs.Sum.{lastWord, summed, muxSum, constantWord, constantOf}
 
 -- a list of d + 1 words f i with c added to the last of them

@@ -3,11 +3,11 @@
 use mathlib.Core.Path.{_≡_, refl}
 use mathlib.Core.Bool.{Bool, true, false, not, _&&_, _||_, xor}
 use Prim.Native.Nat.{ℕ, _+_, _*_, _%_}
-use Rattle.ring.specs.Word.{Q, neg}
+use Rattle.ring.specs.Word.{Q, neg, eighth}
 use Rattle.tlwe.specs.Plain.{bitWord}
 use Rattle.gates.specs.declared.Kind.{Kind}
 use Rattle.gates.specs.declared.Kind.the-variants.{Nand, Or, And, Nor, AndNy, AndYn, OrNy, OrYn, Xor, Xnor}
-use Rattle.gates.specs.Kind.{meaning, weightsOf, eighth, sumOf, standsFor}
+use Rattle.gates.specs.Kind.{meaning, weightsOf, sumOf, standsFor}
 
 -- two bits' four cases
 pub four : (P : Bool → Bool → Type 0) → P true true → P true false → P false true → P false false → (a b : Bool) → P a b

@@ -3,10 +3,11 @@ use mathlib.Core.Bool.{Bool, true, false, not, _&&_, _||_, xor}
 use Prim.Native.Nat.{ℕ, suc, _*_, _-_, _%_, _^_}
 use lib.Dec.{eqb}
 use lib.IntN.{ℤ, pos, negsuc, negℤ, _+ℤ_, _*ℤ_}
-use Rattle.ring.specs.Word.{Q, neg}
+use Rattle.ring.specs.Word.{Q, neg, eighth}
 use Rattle.gates.specs.declared.Kind.{Kind}
 use Rattle.gates.specs.declared.sums.Weights.{Weights}
 use Rattle.gates.specs.declared.Kind.the-variants.{Nand, Or, And, Nor, AndNy, AndYn, OrNy, OrYn, Xor, Xnor}
+use Rattle.ring.specs.Centre.{wordOf}
 
 -- A row of the table. The sum before rotation: so many times a, so many times b, so many eighths of a turn, in whole numbers; and the Boolean
 -- meaning.
@@ -45,15 +46,6 @@ rowOf Xnor = row one (negℤ two) (negℤ two) xor
 -- The meaning of a kind.
 abbrev pub meaning : Kind → Bool → Bool → Bool
 meaning kind = rowOf kind .meaning
-
--- A whole number as a word: modulo 2^32.
-abbrev pub wordOf : ℤ → ℕ
-wordOf (pos n) = n % Q
-wordOf (negsuc n) = neg (suc n) % Q
-
--- An eighth of a turn.
-abbrev pub eighth : ℕ
-eighth = 2 ^ 29
 
 -- The sum of a kind as words: its multiples of a and b, and what is added to b, the last word.
 unfoldable pub weightsOf : Kind → Weights

@@ -3,12 +3,12 @@ use mathlib.Core.Bool.{Bool, true, false, cond}
 use mathlib.Core.List.{List}
 use Prim.Native.Nat.{ℕ, _+_, _*_, _-_, _%_}
 use lib.Dec.{eqb}
-use Rattle.ring.specs.Word.{Q, at}
+use Rattle.ring.specs.Word.{Q, at, eighth}
 use Rattle.ring.specs.Sums.{tab}
 use Rattle.params.specs.declared.Params.{Params}
 use Rattle.params.specs.Sizes.{size}
 use Rattle.gates.specs.declared.Kind.{Kind}
-use Rattle.gates.specs.Kind.{weightsOf, eighth}
+use Rattle.gates.specs.Kind.{weightsOf}
 
 -- A word c in place d, the last of d + 1, and 0 in every other.
 abbrev pub lastWord : ℕ → ℕ → ℕ → ℕ

@@ -15,11 +15,12 @@ use Rattle.ring.proofs.SumLaws.{sum-ext}
 use Rattle.params.specs.declared.Params.{Params}
 use Rattle.params.specs.Sizes.{size, base, switchingRows}
 use Rattle.tlwe.specs.Key.{phaseOf}
-use Rattle.key.specs.Switching.{rowIndex, rowPart, carried, rowError}
-use Rattle.key.specs.Generation.{rowOuter, rowField, rowDigit, rowMasks, rowNoise, drawnRow, generatedRow, joined, generated, Lent}
+use Rattle.key.specs.Switching.{rowIndex, rowPart, carried, switchingRowError}
+use Rattle.key.specs.Generation.{rowOuter, rowField, rowDigit, rowMasks, rowNoise, drawnRow, generatedRow, generated, Lent}
 use Rattle.key.proofs.Rows.{row-below}
 use Rattle.key.proofs.Draws.{outer-below, field-below, digit-below, outer-back, field-back, digit-back, length-masks, length-row, idle, live}
 use Rattle.key.proofs.Joins.{joined-part}
+use Rattle.ring.specs.Lists.{joined}
 
 -- the phase of a row of n masks m and the last word b is that of m and b
 pub phase-of-row : (n : ℕ) (key m : List ℕ) (b : ℕ) → length m ≡ n → phaseOf n key (m ++ (b ∷ [])) ≡ samplePhase n key m b
@@ -60,8 +61,8 @@ module _ (p : Params) (key z masks noise : List ℕ) (lent : Lent p (length key)
     idle-row e = row-is ∙ sym (idle p key z masks noise i j k e)
 
     -- the error of a row that draws is its noise word
-    pub error-noise : 1 ≤ k → rowError p key z (generated p key z masks noise) i j k ≡ rowNoise p noise i j k % Q
-    unfolding rowError drawnRow
+    pub error-noise : 1 ≤ k → switchingRowError p key z (generated p key z masks noise) i j k ≡ rowNoise p noise i j k % Q
+    unfolding switchingRowError drawnRow
     error-noise from =
         let m = rowMasks p masks i j k in
         let b = (inner (p .n) key m + carried p z i j k + rowNoise p noise i j k) % Q in

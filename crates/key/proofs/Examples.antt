@@ -9,7 +9,8 @@ use Rattle.ring.specs.Phase.{inner}
 use Rattle.params.specs.Published.{numbers, security128}
 use Rattle.key.specs.Offset.{offset}
 use Rattle.key.specs.Switching.{rowIndex, carried}
-use Rattle.key.specs.Generation.{rowOuter, rowField, rowDigit, drawn, rowMasks, rowNoise, drawnRow, generatedRow, joined, generated}
+use Rattle.key.specs.Generation.{rowOuter, rowField, rowDigit, drawn, rowMasks, rowNoise, drawnRow, generatedRow, generated}
+use Rattle.ring.specs.Lists.{joined}
 
 -- L·BGBIT = 32
 pub offsets : (offset (numbers 1 1 8 4 1 1) ≡ 0x80808080)

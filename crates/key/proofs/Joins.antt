@@ -11,7 +11,7 @@ use native.Mathlib.Omega.{arith}
 use lib.ListN.{length, take, drop, length-append, length-drop, drop-of-length-le}
 use lib.Seq.{take-at, drop-at, drop-drop, take-all, drop-append-le, take-append-le}
 use borrow.Rule.Slice.PartMut.{putMid}
-use Rattle.key.specs.Generation.{joined}
+use Rattle.ring.specs.Lists.{joined}
 
 module _ (m : ℕ) (f : ℕ → List ℕ) where
   pub length-joined : (n : ℕ) → ((r : ℕ) → r < n → length (f r) ≡ m) → length (joined n f) ≡ n * m

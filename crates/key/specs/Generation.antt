@@ -14,6 +14,7 @@ use Rattle.params.specs.Ranges.{paramsNumber, InRange}
 use Rattle.params.specs.Sizes.{size, base, switchingRows, drawingRows, switchingWords}
 use Rattle.tlwe.specs.Key.{binary}
 use Rattle.key.specs.Switching.{carried}
+use Rattle.ring.specs.Lists.{joined}
 
 -- Row number r is row (i, j, k): its i. These three undo `rowIndex`.
 unfoldable pub rowOuter : Params → ℕ → ℕ
@@ -47,11 +48,6 @@ drawnRow p key z masks noise i j k =
 -- Row (i, j, k): zero for k = 0.
 unfoldable pub generatedRow : Params → List ℕ → List ℕ → List ℕ → List ℕ → ℕ → ℕ → ℕ → List ℕ
 generatedRow p key z masks noise i j k = cond (eqb k 0) (tab (p .n + 1) (λ x. 0)) (drawnRow p key z masks noise i j k)
-
--- The lists f 0 .. f (n - 1), one after another.
-unfoldable pub joined : ℕ → (ℕ → List ℕ) → List ℕ
-joined zero f = []
-joined (suc n) f = joined n f ++ f n
 
 -- The switching key: its rows by their numbers, one after another.
 unfoldable pub generated : Params → List ℕ → List ℕ → List ℕ → List ℕ → List ℕ

@@ -24,8 +24,8 @@ unfoldable pub carried : Params → List ℕ → ℕ → ℕ → ℕ → ℕ
 carried p z i j k = k * at z i * 2 ^ (32 - (j + 1) * p .basebit) % Q
 
 -- The error of row (i, j, k) of a key, as a word: its phase under the level-0 key, less what it should carry (01, Drift; there centred).
-unfoldable pub rowError : Params → List ℕ → List ℕ → List ℕ → ℕ → ℕ → ℕ → ℕ
-rowError p key z rows i j k = (phaseOf (p .n) key (rowPart p rows i j k) + neg (carried p z i j k)) % Q
+unfoldable pub switchingRowError : Params → List ℕ → List ℕ → List ℕ → ℕ → ℕ → ℕ → ℕ
+switchingRowError p key z rows i j k = (phaseOf (p .n) key (rowPart p rows i j k) + neg (carried p z i j k)) % Q
 
 -- The refusal of a lookup of row (i, j, k) in a key of so many words: 1, 2, then 3 for each index in turn.
 unfoldable pub lookupNumber : Params → ℕ → ℕ → ℕ → ℕ → ℕ

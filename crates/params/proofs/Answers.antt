@@ -1,11 +1,11 @@
 -- How a routine's proof goes out of the refusal table and back: a check that comes to 0 has passed, and a refusal keeps what was lent.
 -- Assumes nothing.
 use mathlib.Core.Path.{_≡_, refl}
-use mathlib.Core.Bool.{Bool, true, false}
+use mathlib.Core.Bool.{Bool, true, false, cond}
 use Prim.Native.Nat.{ℕ, _≤_, _<_}
 use native.Mathlib.Omega.{arith}
 use borrow.Author.Tests.{eq-eqb, ne-eqb}
-use Rattle.params.specs.Refusal.{check, pick, ifDone}
+use Rattle.params.specs.Refusal.{check, ifDone}
 
 -- a check that comes to 0 has passed, and so have those after it
 pub passed : (b : Bool) (number rest : ℕ) → 0 < number → check b number rest ≡ 0 → (b ≡ true) × (rest ≡ 0)

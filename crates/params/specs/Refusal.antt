@@ -1,5 +1,5 @@
 -- The refusal table of document 01 ('Refusal numbers'): how a routine's answer is put together, and what a lent slice holds after it.
-use mathlib.Core.Bool.{Bool, true, false}
+use mathlib.Core.Bool.{Bool, true, false, cond}
 use mathlib.Core.List.{List}
 use Prim.Native.Nat.{ℕ}
 use lib.Dec.{eqb}
@@ -14,11 +14,6 @@ check false number rest = number
 abbrev pub answer : ℕ → Answer
 answer n = record { number = n; place = 0 }
 
--- One of two values, by a test.
-abbrev pub pick : {A : Type 0} → Bool → A → A → A
-pick true a b = a
-pick false a b = b
-
 -- One of two values, by a refusal's number: the new one where the call did its work, else the old one. So a refused call writes nothing.
 abbrev pub ifDone : {A : Type 0} → ℕ → A → A → A
-ifDone number new old = pick (eqb number 0) new old
+ifDone number new old = cond (eqb number 0) new old

@@ -1,7 +1,7 @@
 -- A text written over a slice piece by piece: a byte stored is a piece, and two pieces one behind the other are one.
 -- Assumes nothing.
 use mathlib.Core.Path.{_≡_, refl, sym, ap, ap₂, _∙_}
-use mathlib.Core.Bool.{Bool, true, false}
+use mathlib.Core.Bool.{Bool, true, false, cond}
 use mathlib.Core.List.{List, [], _∷_, _++_, append-assoc, append-nil}
 use Prim.Native.Nat.{ℕ, zero, suc, _+_, _≤_, _<_}
 use native.Mathlib.Nat.{add-zero, zero-add}
@@ -13,7 +13,6 @@ use mir.Val.{boolByte}
 use Rattle.ring.specs.Word.{at}
 use Rattle.ring.specs.Sums.{tab}
 use Rattle.ring.proofs.Tab.{tab-of, tab-snoc, length-tab}
-use Rattle.params.specs.Refusal.{pick}
 use Rattle.report.specs.Splice.{splice}
 
 -- the front up to the end of a piece
@@ -81,6 +80,6 @@ unfolding splice
 splice-front o p = rw (zero-add (length p))
 
 -- a bit's character, as the machine makes it
-pub char-byte : (b : Bool) → 48 + boolByte b ≡ pick b 49 48
+pub char-byte : (b : Bool) → 48 + boolByte b ≡ cond b 49 48
 char-byte true = refl
 char-byte false = refl

@@ -6,11 +6,13 @@ use lib.ListN.{length, drop}
 use Rattle.ring.specs.Word.{at}
 use Rattle.ring.specs.Sums.{tab}
 use Rattle.params.specs.declared.Answer.{Answer}
-use Rattle.params.specs.Refusal.{check, answer, pick, ifDone}
+use Rattle.params.specs.Refusal.{check, answer, ifDone}
 use Rattle.circuit.specs.Form.{version, inputs, gates, outputs, answerOf}
-use Rattle.circuit.specs.Plain.{truth, outputBits, workOf}
+use Rattle.circuit.specs.Plain.{outputBits, workOf}
 use Rattle.report.specs.declared.Described.{Described}
 use Rattle.report.specs.Decimal.{decimal}
+use mathlib.Core.Bool.{cond}
+use Rattle.ring.specs.Bit.{truth}
 
 -- ---- words and bits
 
@@ -48,7 +50,7 @@ named word n = word ++ decimal n
 
 -- A bit's character: `1` for true, `0` for false.
 abbrev pub bitChar : ℕ → ℕ
-bitChar n = pick (truth n) 49 48
+bitChar n = cond (truth n) 49 48
 
 -- The characters of a row of bits.
 abbrev pub bitsText : List ℕ → List ℕ
@@ -83,7 +85,7 @@ rowsTo bs (suc r) = rowsTo bs r ++ rowText bs r
 
 -- The table, left out above 4 inputs.
 abbrev pub tableText : List ℕ → List ℕ
-tableText bs = pick (leb (inputs bs) 4) (rowsTo bs (2 ^ inputs bs)) []
+tableText bs = cond (leb (inputs bs) 4) (rowsTo bs (2 ^ inputs bs)) []
 
 -- A refusal's line.
 unfoldable pub refusedText : Answer → List ℕ

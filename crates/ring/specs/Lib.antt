@@ -1,6 +1,9 @@
 pub mod Word
+pub mod Bit
+pub mod Lists
 pub mod Sums
 pub mod Poly
+pub mod Pair
 pub mod Turn
 pub mod Phase
 pub mod Centre

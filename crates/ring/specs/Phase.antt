@@ -2,7 +2,7 @@
 use mathlib.Core.List.{List}
 use mathlib.Core.Bool.{cond}
 use Prim.Native.Nat.{ℕ, _+_, _*_, _-_, _%_}
-use lib.Dec.{leb}
+use lib.Dec.{leb, eqb}
 use Rattle.ring.specs.Word.{Q, at, neg, comp}
 use Rattle.ring.specs.Sums.{sumTo, tab}
 use Rattle.ring.specs.Poly.{minus, times}
@@ -18,6 +18,10 @@ inner n key a = sumTo n (λ i. at a i * at key i)
 -- The phase of the sample with n masks a and last word b: b - a·key.
 unfoldable pub samplePhase : ℕ → List ℕ → List ℕ → ℕ → ℕ
 samplePhase n key a b = (b + neg (inner n key a)) % Q
+
+-- The paper's trivial sample (0, c): n masks that are 0, and c last.
+unfoldable pub trivial : ℕ → ℕ → List ℕ
+trivial n c = tab (n + 1) (λ i. cond (eqb i n) c 0)
 
 -- The N masks of the sample that `sample_extract_index` at k takes from a; past k the Rust complements (01, trlwe). Its last word is b[k].
 unfoldable pub extract : ℕ → ℕ → List ℕ → List ℕ

@@ -10,11 +10,11 @@ use Rattle.params.specs.Published.{numbers, security110}
 use Rattle.ring.specs.Word.{Q, at, neg}
 use Rattle.ring.specs.Sums.{tab, sumTo}
 use Rattle.key.specs.Switching.{rowPart, rowIndex}
-use Rattle.switching.specs.Switched.{switchNumber, rounding, rounded, weight, fieldOf, fieldAt, used, takes, startWord, switched}
+use Rattle.switching.specs.Switched.{switchNumber, rounding, rounded, fieldWeight, switchField, maskField, used, takes, startWord, switched}
 
 -- the 8 fields of a mask
 abbrev fields : ℕ → List ℕ
-fields a = tab 8 (fieldOf security110 (rounded security110 a))
+fields a = tab 8 (switchField security110 (rounded security110 a))
 
 -- n 1, N 2, BASEBIT 1, T 1: rows (i, j, k) of 2 words, the idle rows 0 and 2 holding junk
 abbrev two : Params
@@ -32,5 +32,5 @@ pub examples :
     × (switched two key (0 ∷ 0x80000000 ∷ 9 ∷ []) ≡ 0xFFFFFFF9 ∷ 1 ∷ [])
     × (switched two key (0x40000000 ∷ 0x3FFFFFFF ∷ 9 ∷ []) ≡ 0xFFFFFFFB ∷ 3 ∷ [])
     × (switched two key (0xC0000000 ∷ 0 ∷ 9 ∷ []) ≡ 0 ∷ 9 ∷ [])
-unfolding fieldOf fieldAt rounded rounding weight tab sumTo Q neg switchNumber paramsNumber switchingNumber rowPart rowIndex used takes startWord switched
+unfolding switchField maskField rounded rounding fieldWeight tab sumTo Q neg switchNumber paramsNumber switchingNumber rowPart rowIndex used takes startWord switched
 examples = (refl, refl, refl, refl, refl, refl, refl, refl)

@@ -10,12 +10,12 @@ use Rattle.params.specs.Ranges.{InRange}
 use Rattle.params.specs.Sizes.{base}
 use Rattle.ring.specs.Word.{Q, Q-pos}
 use Rattle.ring.specs.Sums.{sumTo}
-use Rattle.switching.specs.Switched.{rounding, rounded, weight, fieldOf}
+use Rattle.switching.specs.Switched.{rounding, rounded, fieldWeight, switchField}
 use Rattle.switching.specs.Drift.{dropped}
 
-pub field-below : (p : Params) (x j : ℕ) → fieldOf p x j < base p
-unfolding fieldOf
-field-below p x j = mod-lt (x / weight p j) (pow-pos (p .basebit))
+pub field-below : (p : Params) (x j : ℕ) → switchField p x j < base p
+unfolding switchField
+field-below p x j = mod-lt (x / fieldWeight p j) (pow-pos (p .basebit))
 
 pub rounded-below : (p : Params) (a : ℕ) → rounded p a < Q
 unfolding rounded
@@ -36,8 +36,8 @@ more y t w =
 
 -- the top k fields are the word without the rest
 pub fields-sum : (p : Params) (y k : ℕ) → y < Q → k * p .basebit ≤ 32
-    → sumTo k (λ j. fieldOf p y j * weight p j) ≡ y / 2 ^ (32 - k * p .basebit) * 2 ^ (32 - k * p .basebit)
-unfolding sumTo fieldOf weight Q
+    → sumTo k (λ j. switchField p y j * fieldWeight p j) ≡ y / 2 ^ (32 - k * p .basebit) * 2 ^ (32 - k * p .basebit)
+unfolding sumTo switchField fieldWeight Q
 fields-sum p y zero hy hk = rw zero-mul (rw (div-eq-of-lt hy) (omega arith))
 fields-sum p y (suc k) hy hk =
     let w = p .basebit in
@@ -47,7 +47,7 @@ fields-sum p y (suc k) hy hk =
     rw b (rw ih (rw a (more y (32 - (k + 1) * w) w)))
 
 -- all T fields and the low bits that are dropped make the rounded mask
-pub fields-whole : (p : Params) → InRange p → (a : ℕ) → sumTo (p .t) (λ j. fieldOf p (rounded p a) j * weight p j) + dropped p a ≡ rounded p a
+pub fields-whole : (p : Params) → InRange p → (a : ℕ) → sumTo (p .t) (λ j. switchField p (rounded p a) j * fieldWeight p j) + dropped p a ≡ rounded p a
 unfolding dropped
 fields-whole p r a =
     let e : p .t * p .basebit ≡ p .basebit * p .t = mul-comm (p .t) (p .basebit) in

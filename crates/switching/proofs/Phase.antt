@@ -20,8 +20,8 @@ use Rattle.ring.specs.Loop.{accTo}
 use Rattle.ring.proofs.Words.{mul-mod-l, neg-mod}
 use Rattle.ring.proofs.SumLaws.{sum-ext, sum-mod, sum-add, sum-mul, sum-swap, sum-zero}
 use Rattle.tlwe.specs.Key.{phaseOf}
-use Rattle.key.specs.Switching.{rowPart, carried, rowError}
-use Rattle.switching.specs.Switched.{rounding, rounded, weight, fieldOf, fieldAt, used, takes, startWord, switched}
+use Rattle.key.specs.Switching.{rowPart, carried, switchingRowError}
+use Rattle.switching.specs.Switched.{rounding, rounded, fieldWeight, switchField, maskField, used, takes, startWord, switched}
 use Rattle.switching.specs.Drift.{dropped, usedErrors, roundedBy, switchingDrift}
 use Rattle.switching.proofs.Fields.{fields-whole}
 use Rattle.switching.proofs.Rows.{used-none, used-row}
@@ -80,7 +80,7 @@ module _ (p : Params) (s key src : List ℕ) where
 
   -- what field j of mask i takes off the phase
   pub taken : ℕ → ℕ → ℕ
-  taken i j = used (fieldAt p src i j) (neg (rowPhase p s key i j (fieldAt p src i j)))
+  taken i j = used (maskField p src i j) (neg (rowPhase p s key i j (maskField p src i j)))
 
   -- what a field that is k takes: its row's phase
   takes-phase : (i j k : ℕ) → sumTo m (λ x. takes p key i j k x * z x) % Q ≡ used k (neg (rowPhase p s key i j k)) % Q
@@ -95,20 +95,20 @@ module _ (p : Params) (s key src : List ℕ) where
       same = ap (λ (n : ℕ). n % Q) (sym (neg-mod (sumTo m (λ x. at (rowPart p key i j k) x * z x))) ∙ ap neg (sym (phase-sum (p .n) s (rowPart p key i j k))))
 
   -- what mask i takes
-  mask-phase : (i : ℕ) → sumTo m (λ x. sumTo (p .t) (λ j. takes p key i j (fieldAt p src i j) x) * z x) % Q ≡ sumTo (p .t) (taken i) % Q
+  mask-phase : (i : ℕ) → sumTo m (λ x. sumTo (p .t) (λ j. takes p key i j (maskField p src i j) x) * z x) % Q ≡ sumTo (p .t) (taken i) % Q
   unfolding taken
   mask-phase i =
       ap (λ (n : ℕ). n % Q)
-      (sum-ext m _ (λ x. sumTo (p .t) (λ j. takes p key i j (fieldAt p src i j) x * z x)) (λ x l. sym (sum-mul (p .t) (z x) (λ j. takes p key i j (fieldAt p src i j) x)))
-      ∙ sum-swap m (p .t) (λ x j. takes p key i j (fieldAt p src i j) x * z x))
-      ∙ sum-mod (p .t) _ _ (λ j l. takes-phase i j (fieldAt p src i j))
+      (sum-ext m _ (λ x. sumTo (p .t) (λ j. takes p key i j (maskField p src i j) x * z x)) (λ x l. sym (sum-mul (p .t) (z x) (λ j. takes p key i j (maskField p src i j) x)))
+      ∙ sum-swap m (p .t) (λ x j. takes p key i j (maskField p src i j) x * z x))
+      ∙ sum-mod (p .t) _ _ (λ j l. takes-phase i j (maskField p src i j))
 
   -- b, and what the rows take off it
   pub phase-switched : phaseOf (p .n) s (switched p key src) ≡ (at src (size p) + sumTo (size p) (λ i. sumTo (p .t) (taken i))) % Q
   unfolding switched accTo
   phase-switched =
       phase-sum (p .n) s (switched p key src)
-      ∙ acc-sum m (startWord p (at src (size p))) (λ x i. sumTo (p .t) (λ j. takes p key i j (fieldAt p src i j) x)) z (size p)
+      ∙ acc-sum m (startWord p (at src (size p))) (λ x i. sumTo (p .t) (λ j. takes p key i j (maskField p src i j) x)) z (size p)
       ∙ glue _ _ _ _ (start-phase p s (at src (size p))) (sum-mod (size p) _ _ (λ i l. mask-phase i))
 
 -- ---- what a row carries, and its error
@@ -133,12 +133,12 @@ carries-none : (p : Params) (z : List ℕ) (i j k : ℕ) → k ≡ 0 → carried
 unfolding carried Q
 carries-none p z i j k e = ap (λ (k : ℕ). k * at z i * 2 ^ (32 - (j + 1) * p .basebit) % 2 ^ 32) e ∙ (let q : 0 * at z i * 2 ^ (32 - (j + 1) * p .basebit) % 2 ^ 32 ≡ 0 = omega arith in q)
 
-weigh : (p : Params) (f v j : ℕ) → f * v * 2 ^ (32 - (j + 1) * p .basebit) ≡ f * weight p j * v
-unfolding weight
+weigh : (p : Params) (f v j : ℕ) → f * v * 2 ^ (32 - (j + 1) * p .basebit) ≡ f * fieldWeight p j * v
+unfolding fieldWeight
 weigh p f v j = omega arith
 
 -- the fields of a mask: the mask, what it was rounded by added
-mask-is : (p : Params) → InRange p → (a : ℕ) → sumTo (p .t) (λ j. fieldOf p (rounded p a) j * weight p j) % Q ≡ (a + (rounding p + neg (dropped p a))) % Q
+mask-is : (p : Params) → InRange p → (a : ℕ) → sumTo (p .t) (λ j. switchField p (rounded p a) j * fieldWeight p j) % Q ≡ (a + (rounding p + neg (dropped p a))) % Q
 unfolding rounded neg Q
 mask-is p r a = let w = fields-whole p r a in omega arith
 
@@ -160,12 +160,12 @@ settle-phase b M X S D h e = apart b M (neg S) (neg D) (neg-is X M h ∙ ap (λ 
 
 module _ (p : Params) (r : InRange p) (z src : List ℕ) where
   -- what the rows of mask i should carry, all together
-  carried-sum : (i : ℕ) → sumTo (p .t) (λ j. carried p z i j (fieldAt p src i j)) % Q ≡ (at src i * at z i + roundedBy p z src i) % Q
-  unfolding carried fieldAt roundedBy
+  carried-sum : (i : ℕ) → sumTo (p .t) (λ j. carried p z i j (maskField p src i j)) % Q ≡ (at src i * at z i + roundedBy p z src i) % Q
+  unfolding carried maskField roundedBy
   carried-sum i =
-      sum-mod (p .t) _ (λ j. fieldOf p y j * weight p j * at z i) (λ j l. one j)
-      ∙ ap (λ (n : ℕ). n % Q) (sum-mul (p .t) (at z i) (λ j. fieldOf p y j * weight p j))
-      ∙ sym (mul-mod-l (sumTo (p .t) (λ j. fieldOf p y j * weight p j)) (at z i))
+      sum-mod (p .t) _ (λ j. switchField p y j * fieldWeight p j * at z i) (λ j l. one j)
+      ∙ ap (λ (n : ℕ). n % Q) (sum-mul (p .t) (at z i) (λ j. switchField p y j * fieldWeight p j))
+      ∙ sym (mul-mod-l (sumTo (p .t) (λ j. switchField p y j * fieldWeight p j)) (at z i))
       ∙ ap (λ (n : ℕ). n * at z i % Q) (mask-is p r (at src i))
       ∙ mul-mod-l (at src i + c) (at z i)
       ∙ ap (λ (n : ℕ). n % Q) (let q : (at src i + c) * at z i ≡ at src i * at z i + at z i * c = omega arith in q)
@@ -176,18 +176,18 @@ module _ (p : Params) (r : InRange p) (z src : List ℕ) where
       c : ℕ
       c = rounding p + neg (dropped p (at src i))
 
-      one : (j : ℕ) → fieldOf p y j * at z i * 2 ^ (32 - (j + 1) * p .basebit) % Q % Q ≡ fieldOf p y j * weight p j * at z i % Q
-      one j = mod-mod (fieldOf p y j * at z i * 2 ^ (32 - (j + 1) * p .basebit)) Q ∙ ap (λ (n : ℕ). n % Q) (weigh p (fieldOf p y j) (at z i) j)
+      one : (j : ℕ) → switchField p y j * at z i * 2 ^ (32 - (j + 1) * p .basebit) % Q % Q ≡ switchField p y j * fieldWeight p j * at z i % Q
+      one j = mod-mod (switchField p y j * at z i * 2 ^ (32 - (j + 1) * p .basebit)) Q ∙ ap (λ (n : ℕ). n % Q) (weigh p (switchField p y j) (at z i) j)
 
   module _ (s key : List ℕ) where
     -- one mask: what its fields take cancels with the mask under the key, the errors of the rows used and what it was rounded by
     mask-cancels : (i : ℕ) → (sumTo (p .t) (taken p s key src i) + (at src i * at z i + (usedErrors p s z key src i + roundedBy p z src i))) % Q ≡ 0
-    unfolding usedErrors rowError taken
+    unfolding usedErrors switchingRowError taken
     mask-cancels i =
         settle-mask _ _ _ _ _ _
-        (sum-cancel (p .t) (taken p s key src i) (λ j. used (fieldAt p src i j) (rowError p s z key i j (fieldAt p src i j)) + carried p z i j (fieldAt p src i j))
-        (λ j l. field-cancels (fieldAt p src i j) (rowPhase p s key i j (fieldAt p src i j)) (carried p z i j (fieldAt p src i j)) (carries-none p z i j (fieldAt p src i j))))
-        (sum-add (p .t) (λ j. used (fieldAt p src i j) (rowError p s z key i j (fieldAt p src i j))) (λ j. carried p z i j (fieldAt p src i j)))
+        (sum-cancel (p .t) (taken p s key src i) (λ j. used (maskField p src i j) (switchingRowError p s z key i j (maskField p src i j)) + carried p z i j (maskField p src i j))
+        (λ j l. field-cancels (maskField p src i j) (rowPhase p s key i j (maskField p src i j)) (carried p z i j (maskField p src i j)) (carries-none p z i j (maskField p src i j))))
+        (sum-add (p .t) (λ j. used (maskField p src i j) (switchingRowError p s z key i j (maskField p src i j))) (λ j. carried p z i j (maskField p src i j)))
         (carried-sum i)
 
     -- the phase after switching is the phase before it and the drift of switching (01, Drift, 'Switching')

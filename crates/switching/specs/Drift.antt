@@ -5,8 +5,8 @@ use Rattle.params.specs.declared.Params.{Params}
 use Rattle.params.specs.Sizes.{size}
 use Rattle.ring.specs.Word.{Q, at, neg}
 use Rattle.ring.specs.Sums.{sumTo}
-use Rattle.key.specs.Switching.{rowError}
-use Rattle.switching.specs.Switched.{rounding, rounded, fieldAt, used}
+use Rattle.key.specs.Switching.{switchingRowError}
+use Rattle.switching.specs.Switched.{rounding, rounded, maskField, used}
 
 -- The low bits of the mask a that are dropped once its rounding is added.
 unfoldable pub dropped : Params → ℕ → ℕ
@@ -14,7 +14,7 @@ dropped p a = rounded p a % 2 ^ (32 - p .basebit * p .t)
 
 -- The errors of the rows that mask i uses.
 unfoldable pub usedErrors : Params → List ℕ → List ℕ → List ℕ → List ℕ → ℕ → ℕ
-usedErrors p key z rows src i = sumTo (p .t) (λ j. used (fieldAt p src i j) (rowError p key z rows i j (fieldAt p src i j)))
+usedErrors p key z rows src i = sumTo (p .t) (λ j. used (maskField p src i j) (switchingRowError p key z rows i j (maskField p src i j)))
 
 -- What mask i was rounded by, where z has a 1: 2^(31-BASEBIT·T) less the low bits dropped.
 unfoldable pub roundedBy : Params → List ℕ → List ℕ → ℕ → ℕ

@@ -30,16 +30,16 @@ unfoldable pub rounded : Params → ℕ → ℕ
 rounded p a = (a + rounding p) % Q
 
 -- What field j counts: 2^(32-(j+1)·BASEBIT).
-unfoldable pub weight : Params → ℕ → ℕ
-weight p j = 2 ^ (32 - (j + 1) * p .basebit)
+unfoldable pub fieldWeight : Params → ℕ → ℕ
+fieldWeight p j = 2 ^ (32 - (j + 1) * p .basebit)
 
 -- Field j, of BASEBIT bits, counted from the top of a word.
-unfoldable pub fieldOf : Params → ℕ → ℕ → ℕ
-fieldOf p x j = x / weight p j % base p
+unfoldable pub switchField : Params → ℕ → ℕ → ℕ
+switchField p x j = x / fieldWeight p j % base p
 
 -- Field j of mask i of a sample, its rounding added: the k of the row that it uses.
-unfoldable pub fieldAt : Params → List ℕ → ℕ → ℕ → ℕ
-fieldAt p src i j = fieldOf p (rounded p (at src i)) j
+unfoldable pub maskField : Params → List ℕ → ℕ → ℕ → ℕ
+maskField p src i j = switchField p (rounded p (at src i)) j
 
 -- What a field k uses of its row's value f: a field that is 0 uses no row.
 unfoldable pub used : ℕ → ℕ → ℕ
@@ -56,7 +56,7 @@ startWord p b x = cond (eqb x (p .n)) b 0
 -- The switched sample: b copied, and the row of each field that is not 0 subtracted.
 unfoldable pub switched : Params → List ℕ → List ℕ → List ℕ
 switched p key src =
-    tab (p .n + 1) (λ x. (startWord p (at src (size p)) x + sumTo (size p) (λ i. sumTo (p .t) (λ j. takes p key i j (fieldAt p src i j) x))) % Q)
+    tab (p .n + 1) (λ x. (startWord p (at src (size p)) x + sumTo (size p) (λ i. sumTo (p .t) (λ j. takes p key i j (maskField p src i j) x))) % Q)
 
 -- What holds of a switching that is not refused.
 pub record SwitchGood (p : Params) (ls lk lo : ℕ) : Type 0 where

@@ -11,7 +11,7 @@ ghost use Rattle.ring.specs.Word.{at, neg};
 ghost use Rattle.ring.specs.Sums.{sumTo, tab};
 ghost use Rattle.ring.specs.Loop.{addBy};
 ghost use Rattle.key.specs.Switching.{rowPart};
-ghost use Rattle.switching.specs.Switched.{switchNumber, rounding, weight, fieldOf, takes, startWord, switched};
+ghost use Rattle.switching.specs.Switched.{switchNumber, rounding, fieldWeight, switchField, takes, startWord, switched};
 use params::Answer;
 use params::Params;
 
@@ -46,7 +46,7 @@ fn two_to(s: u32) -> u32
 // Field j of a word: the compiler makes a shift and a mask of the quotient and the remainder.
 fn field(p: Params, x: u32, j: u32) -> u32
     requires { ⌜ InRange p × (j < p .t) ⌝ }
-    ensures { λ r. ⌜ r ≡ fieldOf p x j ⌝ }
+    ensures { λ r. ⌜ r ≡ switchField p x j ⌝ }
 {
     x / two_to(32 - (j + 1) * p.basebit) % two_to(p.basebit)
 }
@@ -103,7 +103,7 @@ fn use_field(p: Params, ksk: &[u32], i: u32, j: u32, k: u32, out: &mut [u32])
 // out less the rows of the fields of a mask, its rounding added.
 fn use_mask(p: Params, ksk: &[u32], i: u32, a: u32, out: &mut [u32])
     requires { ⌜ InRange p × (i < size p) × (length (now ksk) ≡ switchingWords p) × (length (now out) ≡ p .n + 1) ⌝ }
-    ensures { λ _. ⌜ now (out .exit) ≡ addBy (now (out .entry)) (λ x. sumTo (p .t) (λ j. takes p (now (ksk .entry)) i j (fieldOf p a j) x)) ⌝ }
+    ensures { λ _. ⌜ now (out .exit) ≡ addBy (now (out .entry)) (λ x. sumTo (p .t) (λ j. takes p (now (ksk .entry)) i j (switchField p a j) x)) ⌝ }
 {
     let t = p.t;
     let mut j: u32 = 0;

@@ -22,7 +22,7 @@ use Rattle.params.proofs.Answers.{passed}
 use Rattle.params.proofs.Ranges.{in-range, size-to, size-two}
 use Rattle.tlwe.specs.declared.Level.{Level}
 use Rattle.tlwe.specs.declared.Level.the-variants.{Zero, One}
-use Rattle.tlwe.specs.Level.{dimension, words, dimensionOf}
+use Rattle.tlwe.specs.Level.{dimension, cipherWords, dimensionOf}
 use Rattle.tlwe.specs.Linear.{linearNumber}
 use Rattle.tlwe.specs.Key.{binary, keyNumber}
 
@@ -78,9 +78,9 @@ module _ (p : Params) (level : Level) where
 -- what holds where an operation is not refused
 pub record Matching (p : Params) (level : Level) (la lb lo : ℕ) : Type 0 where
   pub good : paramsNumber p ≡ 0
-  pub first : la ≡ words p level
-  pub second : lb ≡ words p level
-  pub result : lo ≡ words p level
+  pub first : la ≡ cipherWords p level
+  pub second : lb ≡ cipherWords p level
+  pub result : lo ≡ cipherWords p level
 
 pub linear-good : (p : Params) (level : Level) (la lb lo : ℕ) → linearNumber p level la lb lo ≡ 0 → Matching p level la lb lo
 unfolding linearNumber
@@ -95,7 +95,7 @@ linear-good p level la lb lo e =
 pub linear-done : (p : Params) (level : Level) (la lb lo : ℕ) → Matching p level la lb lo → linearNumber p level la lb lo ≡ 0
 unfolding linearNumber
 linear-done p level la lb lo g =
-    simp (eq-eqb (paramsNumber p) 0 (g .good), eq-eqb la (words p level) (g .first), eq-eqb lb (words p level) (g .second), eq-eqb lo (words p level) (g .result))
+    simp (eq-eqb (paramsNumber p) 0 (g .good), eq-eqb la (cipherWords p level) (g .first), eq-eqb lb (cipherWords p level) (g .second), eq-eqb lo (cipherWords p level) (g .result))
 
 -- ---- keys
 

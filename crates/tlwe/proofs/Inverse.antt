@@ -19,7 +19,7 @@ use Rattle.ring.proofs.Value.{by-test}
 use Rattle.params.specs.declared.Params.{Params}
 use Rattle.tlwe.specs.declared.Level.{Level}
 use Rattle.tlwe.specs.declared.Plain.the-variants.{Bit, Message}
-use Rattle.tlwe.specs.Level.{dimension, words}
+use Rattle.tlwe.specs.Level.{dimension, cipherWords}
 use Rattle.tlwe.specs.Key.{phaseOf, keyedNumber}
 use Rattle.tlwe.specs.Plain.{modulusNumber, bitWord, messageWord}
 use Rattle.tlwe.specs.Encrypt.{encrypted}
@@ -137,7 +137,7 @@ message-back v m noise t l h =
 
 module _ (p : Params) (level : Level) (masks key : List ℕ) (lo noise : ℕ) (small : noise < Q) where
   -- a fresh ciphertext has its level's words
-  fresh-length : (word : ℕ) → length masks ≡ dimension p level → length (encrypted (dimension p level) word masks noise key) ≡ words p level
+  fresh-length : (word : ℕ) → length masks ≡ dimension p level → length (encrypted (dimension p level) word masks noise key) ≡ cipherWords p level
   unfolding encrypted
   fresh-length word e = length-append masks _ ∙ ap (λ (n : ℕ). n + 1) e
 

@@ -13,7 +13,7 @@ use Rattle.params.specs.Ranges.{paramsNumber}
 use Rattle.params.proofs.Answers.{passed}
 use Rattle.tlwe.specs.declared.Level.{Level}
 use Rattle.tlwe.specs.declared.Plain.{Plain}
-use Rattle.tlwe.specs.Level.{dimension, words}
+use Rattle.tlwe.specs.Level.{dimension, cipherWords}
 use Rattle.tlwe.specs.Key.{binary, keyNumber, keyedLengths, keyedNumber}
 use Rattle.tlwe.specs.Plain.{plainNumber}
 use Rattle.tlwe.specs.Encrypt.{encryptLengths, plainKeyNumber, encryptNumber}
@@ -24,7 +24,7 @@ use Rattle.tlwe.proofs.Checks.{key-good, key-bad}
 -- what holds where the lengths of a call with a ciphertext and its key are not refused
 pub record Fitting (p : Params) (level : Level) (lc lk rest : ℕ) : Type 0 where
   pub good : paramsNumber p ≡ 0
-  pub cipher : lc ≡ words p level
+  pub cipher : lc ≡ cipherWords p level
   pub masks : lk ≡ dimension p level
   pub after : rest ≡ 0
 
@@ -38,9 +38,9 @@ keyed-fitting p level lc lk rest e =
 
 module _ (p : Params) (level : Level) (lc lk rest : ℕ) where
   -- a call whose lengths are good goes on to the rest
-  pub keyed-fits : paramsNumber p ≡ 0 → lc ≡ words p level → lk ≡ dimension p level → keyedLengths p level lc lk rest ≡ rest
+  pub keyed-fits : paramsNumber p ≡ 0 → lc ≡ cipherWords p level → lk ≡ dimension p level → keyedLengths p level lc lk rest ≡ rest
   unfolding keyedLengths
-  keyed-fits g c m = simp (eq-eqb (paramsNumber p) 0 g, eq-eqb lc (words p level) c, eq-eqb lk (dimension p level) m)
+  keyed-fits g c m = simp (eq-eqb (paramsNumber p) 0 g, eq-eqb lc (cipherWords p level) c, eq-eqb lk (dimension p level) m)
 
   pub lengths-then : keyedLengths p level lc lk 0 ≡ 0 → keyedLengths p level lc lk rest ≡ rest
   lengths-then e = let g = keyed-fitting p level lc lk 0 e in keyed-fits (g .good) (g .cipher) (g .masks)
@@ -48,7 +48,7 @@ module _ (p : Params) (level : Level) (lc lk rest : ℕ) where
   -- and the rest does not alter a refusal before it
   pub lengths-before : (keyedLengths p level lc lk 0 ≡ 0 → ⊥) → keyedLengths p level lc lk 0 ≡ keyedLengths p level lc lk rest
   unfolding keyedLengths
-  lengths-before h = go (eqb (paramsNumber p) 0) (eqb lc (words p level)) (eqb lk (dimension p level)) h
+  lengths-before h = go (eqb (paramsNumber p) 0) (eqb lc (cipherWords p level)) (eqb lk (dimension p level)) h
     where
       go : (a b c : Bool) → (check a 1 (check b 2 (check c 2 0)) ≡ 0 → ⊥) → check a 1 (check b 2 (check c 2 0)) ≡ check a 1 (check b 2 (check c 2 rest))
       go true true true h = absurd (h refl)
@@ -67,7 +67,7 @@ key-before key rest h = rw (key-bad key h)
 -- what holds where such a call is not refused
 pub record Keyed (p : Params) (level : Level) (lc : ℕ) (key : List ℕ) (rest : ℕ) : Type 0 where
   pub good : paramsNumber p ≡ 0
-  pub cipher : lc ≡ words p level
+  pub cipher : lc ≡ cipherWords p level
   pub masks : length key ≡ dimension p level
   pub bits : binary key ≡ true
   pub after : rest ≡ 0
@@ -81,7 +81,7 @@ keyed-good p level lc key rest e =
 
 module _ (p : Params) (level : Level) (lc : ℕ) (key : List ℕ) (rest : ℕ) where
   -- for callers: a call whose arguments are good goes on to the rest
-  pub keyed-rest : paramsNumber p ≡ 0 → lc ≡ words p level → length key ≡ dimension p level → binary key ≡ true → keyedNumber p level lc key rest ≡ rest
+  pub keyed-rest : paramsNumber p ≡ 0 → lc ≡ cipherWords p level → length key ≡ dimension p level → binary key ≡ true → keyedNumber p level lc key rest ≡ rest
   unfolding keyedNumber
   keyed-rest g c m b = keyed-fits p level lc (length key) (check (binary key) 4 rest) g c m ∙ rw b
 
@@ -102,7 +102,7 @@ module _ (p : Params) (level : Level) (lc : ℕ) (key : List ℕ) (rest : ℕ) w
   -- and does not alter a refusal before it
   pub keyed-before : (keyedNumber p level lc key 0 ≡ 0 → ⊥) → keyedNumber p level lc key 0 ≡ keyedNumber p level lc key rest
   unfolding keyedNumber keyedLengths
-  keyed-before h = go (eqb (paramsNumber p) 0) (eqb lc (words p level)) (eqb (length key) (dimension p level)) (binary key) h
+  keyed-before h = go (eqb (paramsNumber p) 0) (eqb lc (cipherWords p level)) (eqb (length key) (dimension p level)) (binary key) h
     where
       go : (a b c d : Bool) → (check a 1 (check b 2 (check c 2 (check d 4 0))) ≡ 0 → ⊥)
           → check a 1 (check b 2 (check c 2 (check d 4 0))) ≡ check a 1 (check b 2 (check c 2 (check d 4 rest)))
@@ -119,7 +119,7 @@ pub record Lent (p : Params) (level : Level) (lm lk lo rest : ℕ) : Type 0 wher
   pub good : paramsNumber p ≡ 0
   pub masks : lm ≡ dimension p level
   pub keys : lk ≡ dimension p level
-  pub result : lo ≡ words p level
+  pub result : lo ≡ cipherWords p level
   pub after : rest ≡ 0
 
 pub encrypt-lent : (p : Params) (level : Level) (lm lk lo rest : ℕ) → encryptLengths p level lm lk lo rest ≡ 0 → Lent p level lm lk lo rest
@@ -133,9 +133,9 @@ encrypt-lent p level lm lk lo rest e =
 
 module _ (p : Params) (level : Level) (lm lk lo rest : ℕ) where
   -- an encryption whose lengths are good goes on to the rest
-  pub encrypt-fits : paramsNumber p ≡ 0 → lm ≡ dimension p level → lk ≡ dimension p level → lo ≡ words p level → encryptLengths p level lm lk lo rest ≡ rest
+  pub encrypt-fits : paramsNumber p ≡ 0 → lm ≡ dimension p level → lk ≡ dimension p level → lo ≡ cipherWords p level → encryptLengths p level lm lk lo rest ≡ rest
   unfolding encryptLengths
-  encrypt-fits g m k o = simp (eq-eqb (paramsNumber p) 0 g, eq-eqb lm (dimension p level) m, eq-eqb lk (dimension p level) k, eq-eqb lo (words p level) o)
+  encrypt-fits g m k o = simp (eq-eqb (paramsNumber p) 0 g, eq-eqb lm (dimension p level) m, eq-eqb lk (dimension p level) k, eq-eqb lo (cipherWords p level) o)
 
   pub encrypt-then : encryptLengths p level lm lk lo 0 ≡ 0 → encryptLengths p level lm lk lo rest ≡ rest
   encrypt-then e = let g = encrypt-lent p level lm lk lo 0 e in encrypt-fits (g .good) (g .masks) (g .keys) (g .result)
@@ -143,7 +143,7 @@ module _ (p : Params) (level : Level) (lm lk lo rest : ℕ) where
   -- and the rest does not alter a refusal before it
   pub encrypt-before : (encryptLengths p level lm lk lo 0 ≡ 0 → ⊥) → encryptLengths p level lm lk lo 0 ≡ encryptLengths p level lm lk lo rest
   unfolding encryptLengths
-  encrypt-before h = go (eqb (paramsNumber p) 0) (eqb lm (dimension p level)) (eqb lk (dimension p level)) (eqb lo (words p level)) h
+  encrypt-before h = go (eqb (paramsNumber p) 0) (eqb lm (dimension p level)) (eqb lk (dimension p level)) (eqb lo (cipherWords p level)) h
     where
       go : (a b c d : Bool) → (check a 1 (check b 2 (check c 2 (check d 2 0))) ≡ 0 → ⊥)
           → check a 1 (check b 2 (check c 2 (check d 2 0))) ≡ check a 1 (check b 2 (check c 2 (check d 2 rest)))
@@ -158,7 +158,7 @@ pub record Encryptable (p : Params) (level : Level) (plain : Plain) (lm : ℕ) (
   pub good : paramsNumber p ≡ 0
   pub masks : lm ≡ dimension p level
   pub keys : length key ≡ dimension p level
-  pub result : lo ≡ words p level
+  pub result : lo ≡ cipherWords p level
   pub bits : binary key ≡ true
   pub message : plainNumber plain ≡ 0
 

@@ -10,7 +10,7 @@ use Rattle.params.specs.Refusal.{check, ifDone}
 use Rattle.params.specs.Ranges.{paramsNumber}
 use Rattle.tlwe.specs.declared.Level.{Level}
 use Rattle.tlwe.specs.declared.Plain.{Plain}
-use Rattle.tlwe.specs.Level.{dimension, words}
+use Rattle.tlwe.specs.Level.{dimension, cipherWords}
 use Rattle.tlwe.specs.Key.{binary}
 use Rattle.tlwe.specs.Plain.{plainNumber, plainWord}
 
@@ -20,7 +20,7 @@ encryptLengths p level lm lk lo rest =
     check (eqb (paramsNumber p) 0) 1
     (check (eqb lm (dimension p level)) 2
     (check (eqb lk (dimension p level)) 2
-    (check (eqb lo (words p level)) 2
+    (check (eqb lo (cipherWords p level)) 2
     rest)))
 
 -- Refusals 4 and 5: the key's words, then the message modulus.

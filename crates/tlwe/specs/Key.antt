@@ -10,7 +10,7 @@ use Rattle.params.specs.declared.Params.{Params}
 use Rattle.params.specs.Refusal.{check, ifDone}
 use Rattle.params.specs.Ranges.{paramsNumber}
 use Rattle.tlwe.specs.declared.Level.{Level}
-use Rattle.tlwe.specs.Level.{dimension, words}
+use Rattle.tlwe.specs.Level.{dimension, cipherWords}
 
 -- Are all key words 0 or 1?
 unfoldable pub binary : List ℕ → Bool
@@ -25,7 +25,7 @@ keyNumber key = check (binary key) 4 0
 unfoldable pub keyedLengths : Params → Level → ℕ → ℕ → ℕ → ℕ
 keyedLengths p level lc lk rest =
     check (eqb (paramsNumber p) 0) 1
-    (check (eqb lc (words p level)) 2
+    (check (eqb lc (cipherWords p level)) 2
     (check (eqb lk (dimension p level)) 2
     rest))
 

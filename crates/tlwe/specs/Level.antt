@@ -13,8 +13,8 @@ dimension p Zero = p .n
 dimension p One = size p
 
 -- The words of a ciphertext: its masks and b.
-abbrev pub words : Params → Level → ℕ
-words p level = dimension p level + 1
+abbrev pub cipherWords : Params → Level → ℕ
+cipherWords p level = dimension p level + 1
 
 -- The masks, and 0 where the parameters are refused; never 0 where they are not.
 abbrev pub dimensionOf : Params → Level → ℕ

@@ -9,15 +9,15 @@ use Rattle.params.specs.declared.Params.{Params}
 use Rattle.params.specs.Refusal.{check, ifDone}
 use Rattle.params.specs.Ranges.{paramsNumber}
 use Rattle.tlwe.specs.declared.Level.{Level}
-use Rattle.tlwe.specs.Level.{words}
+use Rattle.tlwe.specs.Level.{cipherWords}
 
 -- Refusals 1 and 2 of an operation on ciphertexts of la, lb and lo words. (Negation has one operand: its length stands for both.)
 unfoldable pub linearNumber : Params → Level → ℕ → ℕ → ℕ → ℕ
 linearNumber p level la lb lo =
     check (eqb (paramsNumber p) 0) 1
-    (check (eqb la (words p level)) 2
-    (check (eqb lb (words p level)) 2
-    (check (eqb lo (words p level)) 2
+    (check (eqb la (cipherWords p level)) 2
+    (check (eqb lb (cipherWords p level)) 2
+    (check (eqb lo (cipherWords p level)) 2
     0)))
 
 -- What the result's slice, o before the call, holds after it: the content, and o itself where the call is refused.

@@ -7,7 +7,7 @@ ghost use Rattle.ring.specs.Word.{Q, at, neg};
 ghost use Rattle.ring.specs.Sums.{tab};
 ghost use Rattle.ring.specs.Poly.{plus, minus, scale};
 ghost use Rattle.params.specs.Refusal.{answer};
-ghost use Rattle.tlwe.specs.Level.{words};
+ghost use Rattle.tlwe.specs.Level.{cipherWords};
 ghost use Rattle.tlwe.specs.Linear.{linearNumber, linearOut, negative};
 use super::Level;
 use params::Answer;
@@ -63,7 +63,7 @@ pub fn combine(
     out: &mut [u32],
 ) -> Answer
     ensures said { λ r. ⌜ r ≡ answer (linearNumber p level (length (now (a .entry))) (length (now (b .entry))) (length (now (out .entry)))) ⌝ }
-    ensures written { λ r. ⌜ now (out .exit) ≡ linearOut p level (now (a .entry)) (now (b .entry)) (now (out .entry)) (plus (words p level) (scale (words p level) x (now (a .entry))) (scale (words p level) y (now (b .entry)))) ⌝ }
+    ensures written { λ r. ⌜ now (out .exit) ≡ linearOut p level (now (a .entry)) (now (b .entry)) (now (out .entry)) (plus (cipherWords p level) (scale (cipherWords p level) x (now (a .entry))) (scale (cipherWords p level) y (now (b .entry)))) ⌝ }
 {
     let number = linear_number(p, level, a.len(), b.len(), out.len());
     if number == 0 {
@@ -75,7 +75,7 @@ pub fn combine(
 // a + b.
 pub fn add(p: Params, level: Level, a: &[u32], b: &[u32], out: &mut [u32]) -> Answer
     ensures said { λ r. ⌜ r ≡ answer (linearNumber p level (length (now (a .entry))) (length (now (b .entry))) (length (now (out .entry)))) ⌝ }
-    ensures written { λ r. ⌜ now (out .exit) ≡ linearOut p level (now (a .entry)) (now (b .entry)) (now (out .entry)) (plus (words p level) (now (a .entry)) (now (b .entry))) ⌝ }
+    ensures written { λ r. ⌜ now (out .exit) ≡ linearOut p level (now (a .entry)) (now (b .entry)) (now (out .entry)) (plus (cipherWords p level) (now (a .entry)) (now (b .entry))) ⌝ }
 {
     combine(p, level, a, 1, b, 1, out)
 }
@@ -83,7 +83,7 @@ pub fn add(p: Params, level: Level, a: &[u32], b: &[u32], out: &mut [u32]) -> An
 // a - b.
 pub fn sub(p: Params, level: Level, a: &[u32], b: &[u32], out: &mut [u32]) -> Answer
     ensures said { λ r. ⌜ r ≡ answer (linearNumber p level (length (now (a .entry))) (length (now (b .entry))) (length (now (out .entry)))) ⌝ }
-    ensures written { λ r. ⌜ now (out .exit) ≡ linearOut p level (now (a .entry)) (now (b .entry)) (now (out .entry)) (minus (words p level) (now (a .entry)) (now (b .entry))) ⌝ }
+    ensures written { λ r. ⌜ now (out .exit) ≡ linearOut p level (now (a .entry)) (now (b .entry)) (now (out .entry)) (minus (cipherWords p level) (now (a .entry)) (now (b .entry))) ⌝ }
 {
     combine(p, level, a, 1, b, u32::MAX, out)
 }
@@ -91,7 +91,7 @@ pub fn sub(p: Params, level: Level, a: &[u32], b: &[u32], out: &mut [u32]) -> An
 // -a: each word negated, not complemented.
 pub fn neg(p: Params, level: Level, a: &[u32], out: &mut [u32]) -> Answer
     ensures said { λ r. ⌜ r ≡ answer (linearNumber p level (length (now (a .entry))) (length (now (a .entry))) (length (now (out .entry)))) ⌝ }
-    ensures written { λ r. ⌜ now (out .exit) ≡ linearOut p level (now (a .entry)) (now (a .entry)) (now (out .entry)) (negative (words p level) (now (a .entry))) ⌝ }
+    ensures written { λ r. ⌜ now (out .exit) ≡ linearOut p level (now (a .entry)) (now (a .entry)) (now (out .entry)) (negative (cipherWords p level) (now (a .entry))) ⌝ }
 {
     combine(p, level, a, u32::MAX, a, 0, out)
 }
@@ -106,7 +106,7 @@ pub fn add_mul(
     out: &mut [u32],
 ) -> Answer
     ensures said { λ r. ⌜ r ≡ answer (linearNumber p level (length (now (a .entry))) (length (now (b .entry))) (length (now (out .entry)))) ⌝ }
-    ensures written { λ r. ⌜ now (out .exit) ≡ linearOut p level (now (a .entry)) (now (b .entry)) (now (out .entry)) (plus (words p level) (now (a .entry)) (scale (words p level) multiplier (now (b .entry)))) ⌝ }
+    ensures written { λ r. ⌜ now (out .exit) ≡ linearOut p level (now (a .entry)) (now (b .entry)) (now (out .entry)) (plus (cipherWords p level) (now (a .entry)) (scale (cipherWords p level) multiplier (now (b .entry)))) ⌝ }
 {
     combine(p, level, a, 1, b, multiplier, out)
 }
@@ -121,7 +121,7 @@ pub fn sub_mul(
     out: &mut [u32],
 ) -> Answer
     ensures said { λ r. ⌜ r ≡ answer (linearNumber p level (length (now (a .entry))) (length (now (b .entry))) (length (now (out .entry)))) ⌝ }
-    ensures written { λ r. ⌜ now (out .exit) ≡ linearOut p level (now (a .entry)) (now (b .entry)) (now (out .entry)) (minus (words p level) (now (a .entry)) (scale (words p level) multiplier (now (b .entry)))) ⌝ }
+    ensures written { λ r. ⌜ now (out .exit) ≡ linearOut p level (now (a .entry)) (now (b .entry)) (now (out .entry)) (minus (cipherWords p level) (now (a .entry)) (scale (cipherWords p level) multiplier (now (b .entry)))) ⌝ }
 {
     combine(p, level, a, 1, b, ring::negated(multiplier), out)
 }

@@ -18,10 +18,12 @@ use Rattle.params.proofs.Ranges.{in-range}
 use Rattle.ring.specs.Poly.{plus, times}
 use Rattle.product.specs.Product.{polyMulAddOut}
 use Rattle.product.proofs.Uses.{poly-mul-add-done}
-use Rattle.decomposition.specs.Pair.{Pair, pairDigit, polynomialOut}
+use Rattle.decomposition.specs.Pair.{pairDigit, polynomialOut}
 use Rattle.decomposition.proofs.Checks.{polynomial-done}
-use Rattle.trgsw.specs.External.{part, rowA, rowB}
+use Rattle.trgsw.specs.External.{rowA, rowB}
 use Rattle.trgsw.specs.Refusals.{externalNumber, cmuxNumber}
+use Rattle.ring.specs.Pair.{Pair}
+use Rattle.ring.specs.Lists.{part}
 
 -- ---- rows
 

@@ -18,12 +18,13 @@ use Rattle.params.specs.declared.Params.{Params}
 use Rattle.params.specs.Ranges.{InRange}
 use Rattle.params.specs.Sizes.{size}
 use Rattle.params.proofs.Ranges.{size-from}
-use Rattle.decomposition.specs.Digit.{digitPoly, weight, cleared, clearedPoly}
-use Rattle.decomposition.specs.Pair.{Pair, pairDigit}
+use Rattle.decomposition.specs.Digit.{digitPoly, digitWeight, cleared, clearedPoly}
+use Rattle.decomposition.specs.Pair.{pairDigit}
 use Rattle.decomposition.proofs.Flat.{pair-low, pair-high}
 use Rattle.decomposition.proofs.Polys.{recompose-poly}
 use Rattle.trgsw.specs.External.{rowA, rowB, external}
-use Rattle.trgsw.specs.Errors.{rowError, digitErrors, lowPoly}
+use Rattle.trgsw.specs.Errors.{bootstrappingRowError, digitErrors, lowPoly}
+use Rattle.ring.specs.Pair.{Pair}
 
 -- a sum less its second part, and a difference with it again
 module _ (N : ℕ) (h : 0 < N) (a s : List ℕ) (pa : Proper N h a) where
@@ -54,29 +55,29 @@ module _ (p : Params) (r : InRange p) (z rows : List ℕ) (m : ℕ) where
   N = size p
 
   -- the rows, by their errors
-  row-low : (i : ℕ) → i < p .l → phase N z (rowA p rows i) (rowB p rows i) ≡ minus N (rowError p z rows m i) (scale N (m * weight p i) z)
-  unfolding rowError
+  row-low : (i : ℕ) → i < p .l → phase N z (rowA p rows i) (rowB p rows i) ≡ minus N (bootstrappingRowError p z rows m i) (scale N (m * digitWeight p i) z)
+  unfolding bootstrappingRowError
   row-low i l = rw (lt-ltb i (p .l) l) (sym (plus-less N (size-from p) _ _ (phase-proper N (size-from p) z (rowA p rows i) (rowB p rows i))))
 
   row-high : (i : ℕ) → i < p .l
-      → phase N z (rowA p rows (p .l + i)) (rowB p rows (p .l + i)) ≡ plus N (scale N (m * weight p i) (1 ∷ [])) (rowError p z rows m (p .l + i))
-  unfolding rowError
+      → phase N z (rowA p rows (p .l + i)) (rowB p rows (p .l + i)) ≡ plus N (scale N (m * digitWeight p i) (1 ∷ [])) (bootstrappingRowError p z rows m (p .l + i))
+  unfolding bootstrappingRowError
   row-high i l =
       rw (le-ltb (p .l + i) (p .l) (omega arith), add-sub-cancel-left (p .l) i)
       (sym (less-plus N (size-from p) _ _ (phase-proper N (size-from p) z (rowA p rows (p .l + i)) (rowB p rows (p .l + i)))))
 
   module _ (x : Pair) (wa : (i : ℕ) → at (x .a) i < Q) (wb : (i : ℕ) → at (x .b) i < Q) where
-    digits-low : total N (p .l) (λ i. scale N (weight p i) (pairDigit p x i)) ≡ clearedPoly p (x .a)
-    digits-low = total-ext N (p .l) _ _ (λ i l. ap (scale N (weight p i)) (sym (pair-low p x i l))) ∙ recompose-poly p r (x .a) wa
+    digits-low : total N (p .l) (λ i. scale N (digitWeight p i) (pairDigit p x i)) ≡ clearedPoly p (x .a)
+    digits-low = total-ext N (p .l) _ _ (λ i l. ap (scale N (digitWeight p i)) (sym (pair-low p x i l))) ∙ recompose-poly p r (x .a) wa
 
-    digits-high : total N (p .l) (λ i. scale N (weight p i) (pairDigit p x (p .l + i))) ≡ clearedPoly p (x .b)
+    digits-high : total N (p .l) (λ i. scale N (digitWeight p i) (pairDigit p x (p .l + i))) ≡ clearedPoly p (x .b)
     digits-high =
-        total-ext N (p .l) _ _ (λ i l. ap (scale N (weight p i)) (sym (ap (λ (k : ℕ). digitPoly p k (x .b)) (sym (add-sub-cancel-left (p .l) i)) ∙ pair-high p x (p .l + i) (omega arith))))
+        total-ext N (p .l) _ _ (λ i l. ap (scale N (digitWeight p i)) (sym (ap (λ (k : ℕ). digitPoly p k (x .b)) (sym (add-sub-cancel-left (p .l) i)) ∙ pair-high p x (p .l + i) (omega arith))))
         ∙ recompose-poly p r (x .b) wb
 
     -- the external product's phase: m times that of the cleared pair, and the digits times the rows' errors (TFHE paper, Theorem 3.14)
     pub external-phase : phase N z (external p rows x .a) (external p rows x .b)
         ≡ plus N (scale N m (phase N z (clearedPoly p (x .a)) (clearedPoly p (x .b)))) (digitErrors p z rows m x)
     unfolding external digitErrors
-    external-phase = phase-external N (size-from p) (p .l) m z (clearedPoly p (x .a)) (clearedPoly p (x .b)) (pairDigit p x) (rowA p rows) (rowB p rows) (rowError p z rows m) (weight p)
+    external-phase = phase-external N (size-from p) (p .l) m z (clearedPoly p (x .a)) (clearedPoly p (x .b)) (pairDigit p x) (rowA p rows) (rowB p rows) (bootstrappingRowError p z rows m) (digitWeight p)
         row-low row-high digits-low digits-high

@@ -5,11 +5,9 @@ use lib.ListN.{take, drop}
 use Rattle.ring.specs.Poly.{plus, minus, times, total}
 use Rattle.params.specs.declared.Params.{Params}
 use Rattle.params.specs.Sizes.{size}
-use Rattle.decomposition.specs.Pair.{Pair, pairDigit}
-
--- The m words of a list from place s on.
-unfoldable pub part : ℕ → ℕ → List ℕ → List ℕ
-part m s l = take m (drop s l)
+use Rattle.decomposition.specs.Pair.{pairDigit}
+use Rattle.ring.specs.Pair.{Pair, pairPlus, pairMinus}
+use Rattle.ring.specs.Lists.{part}
 
 -- The a of row r of one bit's 2L rows of 2N words, each a then b (01, key).
 unfoldable pub rowA : Params → List ℕ → ℕ → List ℕ
@@ -18,14 +16,6 @@ rowA p rows r = part (size p) (r * (size p + size p)) rows
 -- Its b.
 unfoldable pub rowB : Params → List ℕ → ℕ → List ℕ
 rowB p rows r = part (size p) (r * (size p + size p) + size p) rows
-
--- x + y, of pairs of N words.
-abbrev pub pairPlus : ℕ → Pair → Pair → Pair
-pairPlus N x y = record { a = plus N (x .a) (y .a); b = plus N (x .b) (y .b) }
-
--- x - y, of pairs of N words.
-abbrev pub pairMinus : ℕ → Pair → Pair → Pair
-pairMinus N x y = record { a = minus N (x .a) (y .a); b = minus N (x .b) (y .b) }
 
 -- The external product of one bit's rows with x: the sum over the rows of the digit polynomial times the row (01, trgsw).
 unfoldable pub external : Params → List ℕ → Pair → Pair

@@ -7,8 +7,8 @@ use Rattle.params.specs.declared.Params.{Params}
 use Rattle.params.specs.Refusal.{check, ifDone}
 use Rattle.params.specs.Ranges.{paramsNumber}
 use Rattle.params.specs.Sizes.{size, bitWords}
-use Rattle.decomposition.specs.Pair.{Pair}
-use Rattle.trgsw.specs.External.{pairPlus, external, cmuxOf}
+use Rattle.trgsw.specs.External.{external, cmuxOf}
+use Rattle.ring.specs.Pair.{Pair, pairPlus}
 
 -- 1, then 2: one bit's rows of lr words, a pair of la and lb words, and results of lx and ly words.
 unfoldable pub externalNumber : Params → ℕ → ℕ → ℕ → ℕ → ℕ → ℕ

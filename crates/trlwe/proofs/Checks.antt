@@ -16,8 +16,8 @@ use Rattle.params.proofs.Ranges.{in-range, sizes-good}
 use Rattle.product.proofs.Laws.{range-number, range-passed}
 use Rattle.tlwe.specs.Key.{binary}
 use Rattle.trlwe.specs.Extract.{extractNumber}
-use Rattle.trlwe.specs.Encrypt.{encryptNumber}
-use Rattle.trlwe.specs.Decrypt.{decryptNumber}
+use Rattle.trlwe.specs.Encrypt.{encryptPairNumber}
+use Rattle.trlwe.specs.Decrypt.{decryptPairNumber}
 
 -- the length of a sample in the record of lengths
 pub level1-passed : (p : Params) {s : Sizes} → s ≡ sizesOf p → s .number ≡ 0 → s .level1 ≡ size p + 1
@@ -69,8 +69,8 @@ pub record EncryptGood (p : Params) (lp lm ln : ℕ) (key : List ℕ) (la lb : �
   pub bits : binary key ≡ true
 
 module _ (p : Params) (lp lm ln : ℕ) (key : List ℕ) (la lb : ℕ) where
-  pub encrypt-good : encryptNumber p lp lm ln key la lb ≡ 0 → EncryptGood p lp lm ln key la lb
-  unfolding encryptNumber
+  pub encrypt-good : encryptPairNumber p lp lm ln key la lb ≡ 0 → EncryptGood p lp lm ln key la lb
+  unfolding encryptPairNumber
   encrypt-good e =
       let s1 = passed _ _ _ (lit< tt) e in
       let s2 = passed _ _ _ (lit< tt) (s1 .1) in
@@ -91,8 +91,8 @@ module _ (p : Params) (lp lm ln : ℕ) (key : List ℕ) (la lb : ℕ) where
         bits = s8 .0;
       }
 
-  pub encrypt-passes : EncryptGood p lp lm ln key la lb → encryptNumber p lp lm ln key la lb ≡ 0
-  unfolding encryptNumber
+  pub encrypt-passes : EncryptGood p lp lm ln key la lb → encryptPairNumber p lp lm ln key la lb ≡ 0
+  unfolding encryptPairNumber
   encrypt-passes g =
       simp (
         eq-eqb (paramsNumber p) 0 (range-number p (g .range)),
@@ -117,8 +117,8 @@ pub record DecryptGood (p : Params) (la lb : ℕ) (key : List ℕ) (lo : ℕ) : 
   pub bits : binary key ≡ true
 
 module _ (p : Params) (la lb : ℕ) (key : List ℕ) (lo : ℕ) where
-  pub decrypt-good : decryptNumber p la lb key lo ≡ 0 → DecryptGood p la lb key lo
-  unfolding decryptNumber
+  pub decrypt-good : decryptPairNumber p la lb key lo ≡ 0 → DecryptGood p la lb key lo
+  unfolding decryptPairNumber
   decrypt-good e =
       let s1 = passed _ _ _ (lit< tt) e in
       let s2 = passed _ _ _ (lit< tt) (s1 .1) in
@@ -135,8 +135,8 @@ module _ (p : Params) (la lb : ℕ) (key : List ℕ) (lo : ℕ) where
         bits = s6 .0;
       }
 
-  pub decrypt-passes : DecryptGood p la lb key lo → decryptNumber p la lb key lo ≡ 0
-  unfolding decryptNumber
+  pub decrypt-passes : DecryptGood p la lb key lo → decryptPairNumber p la lb key lo ≡ 0
+  unfolding decryptPairNumber
   decrypt-passes g =
       simp (
         eq-eqb (paramsNumber p) 0 (range-number p (g .range)),

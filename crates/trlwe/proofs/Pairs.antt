@@ -29,8 +29,9 @@ use Rattle.tlwe.specs.Plain.{bitWord}
 use Rattle.tlwe.specs.Decrypt.{bitOf}
 use Rattle.tlwe.proofs.Inverse.{bit-back}
 use Rattle.trlwe.specs.Extract.{extracted}
-use Rattle.trlwe.specs.Encrypt.{freshBody, isTrue, bitWords}
-use Rattle.trlwe.specs.Decrypt.{bitByte, decrypted}
+use Rattle.trlwe.specs.Encrypt.{freshBody, wordsOfBits}
+use Rattle.trlwe.specs.Decrypt.{decrypted}
+use Rattle.ring.specs.Bit.{truth, bitNumber}
 
 -- ---- what the code leaves
 
@@ -45,12 +46,12 @@ sealed p r masks noise key o {sum} lm lk lo e f =
 
 -- the bits of b less the product
 pub opened : (p : Params) → InRange p → (a b key o z : List ℕ) {az out : List ℕ} → length a ≡ size p → length key ≡ size p → length o ≡ size p → length z ≡ size p
-    → az ≡ polyMulOut p a key z → out ≡ tab (length o) (λ i. bitByte (bitOf ((at b i + neg (at az i)) % Q))) → out ≡ decrypted (size p) key a b
+    → az ≡ polyMulOut p a key z → out ≡ tab (length o) (λ i. bitNumber (bitOf ((at b i + neg (at az i)) % Q))) → out ≡ decrypted (size p) key a b
 unfolding decrypted phase minus
 opened p r a b key o z {az} la lk lo lz e f =
     let s : az ≡ times (size p) a key = e ∙ poly-mul-done p r a key z la lk lz in
-    f ∙ ap (λ (m : ℕ). tab m (λ i. bitByte (bitOf ((at b i + neg (at az i)) % Q)))) lo
-    ∙ tab-ext (size p) _ _ (λ i l. ap (λ (x : ℕ). bitByte (bitOf x))
+    f ∙ ap (λ (m : ℕ). tab m (λ i. bitNumber (bitOf ((at b i + neg (at az i)) % Q)))) lo
+    ∙ tab-ext (size p) _ _ (λ i l. ap (λ (x : ℕ). bitNumber (bitOf x))
     (ap (λ (t : List ℕ). (at b i + neg (at t i)) % Q) s ∙ sym (at-tab (size p) (λ j. (at b j + neg (at (times (size p) a key) j)) % Q) i l)))
 
 -- ---- the phase of a fresh pair, and decryption
@@ -65,14 +66,14 @@ module _ (N : ℕ) (h : 0 < N) where
 
   -- decryption inverts encryption of bits
   pub bits-back : (bytes noise masks z : List ℕ) → length bytes ≡ N → ((i : ℕ) → at noise i < Q) → ((i : ℕ) → i < N → natAbs (centre (at noise i)) < 2 ^ 29)
-      → decrypted N z masks (freshBody N (bitWords bytes) noise masks z) ≡ tab N (λ i. bitByte (isTrue (at bytes i)))
+      → decrypted N z masks (freshBody N (wordsOfBits bytes) noise masks z) ≡ tab N (λ i. bitNumber (truth (at bytes i)))
   unfolding decrypted plus
   bits-back bytes noise masks z e w s = tab-ext N _ _ (λ i l.
       let li : i < length bytes = omega arith in
-      ap (λ (t : List ℕ). bitByte (bitOf (at t i))) (phase-fresh (bitWords bytes) noise masks z)
-      ∙ ap (λ (x : ℕ). bitByte (bitOf x)) (at-tab N (λ j. (at (bitWords bytes) j + at noise j) % Q) i l
-      ∙ ap (λ (x : ℕ). (x + at noise i) % Q) (at-tab (length bytes) (λ j. bitWord (isTrue (at bytes j))) i li))
-      ∙ ap bitByte (bit-back (isTrue (at bytes i)) (at noise i) (w i) (s i l)))
+      ap (λ (t : List ℕ). bitNumber (bitOf (at t i))) (phase-fresh (wordsOfBits bytes) noise masks z)
+      ∙ ap (λ (x : ℕ). bitNumber (bitOf x)) (at-tab N (λ j. (at (wordsOfBits bytes) j + at noise j) % Q) i l
+      ∙ ap (λ (x : ℕ). (x + at noise i) % Q) (at-tab (length bytes) (λ j. bitWord (truth (at bytes j))) i li))
+      ∙ ap bitNumber (bit-back (truth (at bytes i)) (at noise i) (w i) (s i l)))
 
   -- ---- extraction
 

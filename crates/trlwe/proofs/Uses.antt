@@ -19,10 +19,11 @@ use Rattle.ring.specs.Centre.{centre}
 use Rattle.product.proofs.Uses.{length-plus}
 use Rattle.tlwe.specs.Key.{phaseOf}
 use Rattle.trlwe.specs.Extract.{extractNumber, extracted, extractOut}
-use Rattle.trlwe.specs.Encrypt.{freshBody, isTrue, bitWords, maskOut, bodyOut}
-use Rattle.trlwe.specs.Decrypt.{bitByte, decrypted, decryptOut}
+use Rattle.trlwe.specs.Encrypt.{freshBody, wordsOfBits, maskOut, bodyOut}
+use Rattle.trlwe.specs.Decrypt.{decrypted, decryptOut}
 use Rattle.trlwe.proofs.Checks.{extract-passes, EncryptGood, encrypt-passes, DecryptGood, decrypt-passes}
 use Rattle.trlwe.proofs.Pairs.{phase-fresh, bits-back, phase-extracted}
+use Rattle.ring.specs.Bit.{truth, bitNumber}
 
 -- ---- `sample_extract_index`
 
@@ -62,15 +63,15 @@ length-fresh N plain noise masks z = length-plus N _ _
 pub encrypt-decrypt : (p : Params) (bytes masks noise key a b o : List ℕ)
     → EncryptGood p (length bytes) (length masks) (length noise) key (length a) (length b) → length o ≡ size p
     → ((i : ℕ) → at noise i < Q) → ((i : ℕ) → i < size p → natAbs (centre (at noise i)) < 2 ^ 29)
-    → decryptOut p (maskOut p (length bytes) masks noise key a b) (bodyOut p (length bytes) (bitWords bytes) masks noise key a b) key o
-    ≡ tab (size p) (λ i. bitByte (isTrue (at bytes i)))
+    → decryptOut p (maskOut p (length bytes) masks noise key a b) (bodyOut p (length bytes) (wordsOfBits bytes) masks noise key a b) key o
+    ≡ tab (size p) (λ i. bitNumber (truth (at bytes i)))
 encrypt-decrypt p bytes masks noise key a b o g lo w s =
-    ap₂ (λ (x y : List ℕ). decryptOut p x y key o) (encrypt-mask-done p (length bytes) (bitWords bytes) masks noise key a b g)
-    (encrypt-body-done p (length bytes) (bitWords bytes) masks noise key a b g)
-    ∙ decrypt-bool-done p masks (freshBody (size p) (bitWords bytes) noise masks key) key o (record {
+    ap₂ (λ (x y : List ℕ). decryptOut p x y key o) (encrypt-mask-done p (length bytes) (wordsOfBits bytes) masks noise key a b g)
+    (encrypt-body-done p (length bytes) (wordsOfBits bytes) masks noise key a b g)
+    ∙ decrypt-bool-done p masks (freshBody (size p) (wordsOfBits bytes) noise masks key) key o (record {
       range = g .range;
       mask = g .masks;
-      body = length-fresh (size p) (bitWords bytes) noise masks key;
+      body = length-fresh (size p) (wordsOfBits bytes) noise masks key;
       keys = g .keys;
       into = lo;
       bits = g .bits;

@@ -13,10 +13,11 @@ use Rattle.ring.specs.Sums.{tab}
 use Rattle.ring.specs.Phase.{phase}
 use Rattle.tlwe.specs.Key.{keyNumber}
 use Rattle.tlwe.specs.Decrypt.{bitOf}
+use Rattle.ring.specs.Bit.{bitNumber}
 
 -- The refusals of a decryption of la and lb words into lo bytes: 1, then 2 unless each has N, then 4.
-unfoldable pub decryptNumber : Params → ℕ → ℕ → List ℕ → ℕ → ℕ
-decryptNumber p la lb key lo =
+unfoldable pub decryptPairNumber : Params → ℕ → ℕ → List ℕ → ℕ → ℕ
+decryptPairNumber p la lb key lo =
     check (eqb (paramsNumber p) 0) 1
     (check (eqb la (size p)) 2
     (check (eqb lb (size p)) 2
@@ -24,14 +25,10 @@ decryptNumber p la lb key lo =
     (check (eqb lo (size p)) 2
     (keyNumber key)))))
 
--- A bit as it is handed back: a byte, 1 or 0.
-abbrev pub bitByte : Bool → ℕ
-bitByte bit = cond bit 1 0
-
 -- The bits of a pair under the key z.
 unfoldable pub decrypted : ℕ → List ℕ → List ℕ → List ℕ → List ℕ
-decrypted N z a b = tab N (λ i. bitByte (bitOf (at (phase N z a b) i)))
+decrypted N z a b = tab N (λ i. bitNumber (bitOf (at (phase N z a b) i)))
 
 -- What `decrypt_bool` leaves in out, which held o.
 abbrev pub decryptOut : Params → List ℕ → List ℕ → List ℕ → List ℕ → List ℕ
-decryptOut p a b z o = ifDone (decryptNumber p (length a) (length b) z (length o)) (decrypted (size p) z a b) o
+decryptOut p a b z o = ifDone (decryptPairNumber p (length a) (length b) z (length o)) (decrypted (size p) z a b) o

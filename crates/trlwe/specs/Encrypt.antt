@@ -13,10 +13,11 @@ use Rattle.ring.specs.Sums.{tab}
 use Rattle.ring.specs.Poly.{plus, times}
 use Rattle.tlwe.specs.Key.{keyNumber}
 use Rattle.tlwe.specs.Plain.{bitWord}
+use Rattle.ring.specs.Bit.{truth}
 
 -- The refusals of an encryption of lp values with lm masks and ln noise words into la and lb words: 1, then 2 unless each has N, then 4.
-unfoldable pub encryptNumber : Params → ℕ → ℕ → ℕ → List ℕ → ℕ → ℕ → ℕ
-encryptNumber p lp lm ln key la lb =
+unfoldable pub encryptPairNumber : Params → ℕ → ℕ → ℕ → List ℕ → ℕ → ℕ → ℕ
+encryptPairNumber p lp lm ln key la lb =
     check (eqb (paramsNumber p) 0) 1
     (check (eqb lp (size p)) 2
     (check (eqb lm (size p)) 2
@@ -30,19 +31,15 @@ encryptNumber p lp lm ln key la lb =
 unfoldable pub freshBody : ℕ → List ℕ → List ℕ → List ℕ → List ℕ → List ℕ
 freshBody N plain noise masks z = plus N (plus N plain noise) (times N masks z)
 
--- A lent bit is a byte: 0 false, any other true (01, Circuits; docs/DECISIONS.md, Readings).
-abbrev pub isTrue : ℕ → Bool
-isTrue byte = ltb 0 byte
-
 -- The words of lent bits, each ±0.125 of a turn.
-abbrev pub bitWords : List ℕ → List ℕ
-bitWords bytes = tab (length bytes) (λ i. bitWord (isTrue (at bytes i)))
+abbrev pub wordsOfBits : List ℕ → List ℕ
+wordsOfBits bytes = tab (length bytes) (λ i. bitWord (truth (at bytes i)))
 
 -- What an encryption leaves in a, which held a, lp being the number of plain values: the masks.
 abbrev pub maskOut : Params → ℕ → List ℕ → List ℕ → List ℕ → List ℕ → List ℕ → List ℕ
-maskOut p lp masks noise key a b = ifDone (encryptNumber p lp (length masks) (length noise) key (length a) (length b)) masks a
+maskOut p lp masks noise key a b = ifDone (encryptPairNumber p lp (length masks) (length noise) key (length a) (length b)) masks a
 
 -- What it leaves in b, which held b, plain being the words of the plain values.
 abbrev pub bodyOut : Params → ℕ → List ℕ → List ℕ → List ℕ → List ℕ → List ℕ → List ℕ → List ℕ
 bodyOut p lp plain masks noise key a b =
-    ifDone (encryptNumber p lp (length masks) (length noise) key (length a) (length b)) (freshBody (size p) plain noise masks key) b
+    ifDone (encryptPairNumber p lp (length masks) (length noise) key (length a) (length b)) (freshBody (size p) plain noise masks key) b

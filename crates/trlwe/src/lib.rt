@@ -14,10 +14,10 @@ ghost use Rattle.params.specs.Refusal.{answer};
 ghost use Rattle.params.specs.Ranges.{InRange};
 ghost use Rattle.params.specs.Sizes.{size};
 ghost use Rattle.ring.specs.Word.{at, comp};
-ghost use Rattle.utils.specs.Torus.{words};
+ghost use Rattle.utils.specs.Torus.{wordsOfDoubles};
 ghost use Rattle.trlwe.specs.Extract.{extractNumber, extracted, extractOut};
-ghost use Rattle.trlwe.specs.Encrypt.{encryptNumber, freshBody, bitWords, maskOut, bodyOut};
-ghost use Rattle.trlwe.specs.Decrypt.{decryptNumber, decrypted, decryptOut};
+ghost use Rattle.trlwe.specs.Encrypt.{encryptPairNumber, freshBody, wordsOfBits, maskOut, bodyOut};
+ghost use Rattle.trlwe.specs.Decrypt.{decryptPairNumber, decrypted, decryptOut};
 
 mod loops;
 
@@ -91,7 +91,7 @@ fn encrypt_number(
     la: usize,
     lb: usize,
 ) -> u32
-    ensures { λ r. ⌜ r ≡ encryptNumber p plain masks noise (now (key .entry)) la lb ⌝ }
+    ensures { λ r. ⌜ r ≡ encryptPairNumber p plain masks noise (now (key .entry)) la lb ⌝ }
 {
     let s = params::sizes_of(p);
     if s.number != 0 {
@@ -139,7 +139,7 @@ fn seal_doubles(
     b: &mut [u32],
 )
     requires { ⌜ InRange p × (length (now plain) ≡ size p) × (length (now masks) ≡ size p) × (length (now noise) ≡ size p) × (length (now key) ≡ size p) × (length (now a) ≡ size p) × (length (now b) ≡ size p) ⌝ }
-    ensures { λ _. ⌜ (now (a .exit) ≡ now (masks .entry)) × (now (b .exit) ≡ freshBody (size p) (words (now (plain .entry))) (now (noise .entry)) (now (masks .entry)) (now (key .entry))) ⌝ }
+    ensures { λ _. ⌜ (now (a .exit) ≡ now (masks .entry)) × (now (b .exit) ≡ freshBody (size p) (wordsOfDoubles (now (plain .entry))) (now (noise .entry)) (now (masks .entry)) (now (key .entry))) ⌝ }
 {
     utils::f64_to_torus_vec(plain, b);
     seal(p, masks, noise, key, a, b);
@@ -155,9 +155,9 @@ pub fn encrypt_f64(
     a: &mut [u32],
     b: &mut [u32],
 ) -> Answer
-    ensures said { λ r. ⌜ r ≡ answer (encryptNumber p (length (now (plain .entry))) (length (now (masks .entry))) (length (now (noise .entry))) (now (key .entry)) (length (now (a .entry))) (length (now (b .entry)))) ⌝ }
+    ensures said { λ r. ⌜ r ≡ answer (encryptPairNumber p (length (now (plain .entry))) (length (now (masks .entry))) (length (now (noise .entry))) (now (key .entry)) (length (now (a .entry))) (length (now (b .entry)))) ⌝ }
     ensures mask { λ r. ⌜ now (a .exit) ≡ maskOut p (length (now (plain .entry))) (now (masks .entry)) (now (noise .entry)) (now (key .entry)) (now (a .entry)) (now (b .entry)) ⌝ }
-    ensures body { λ r. ⌜ now (b .exit) ≡ bodyOut p (length (now (plain .entry))) (words (now (plain .entry))) (now (masks .entry)) (now (noise .entry)) (now (key .entry)) (now (a .entry)) (now (b .entry)) ⌝ }
+    ensures body { λ r. ⌜ now (b .exit) ≡ bodyOut p (length (now (plain .entry))) (wordsOfDoubles (now (plain .entry))) (now (masks .entry)) (now (noise .entry)) (now (key .entry)) (now (a .entry)) (now (b .entry)) ⌝ }
 {
     let number = encrypt_number(
         p,
@@ -185,7 +185,7 @@ fn seal_bits(
     b: &mut [u32],
 )
     requires { ⌜ InRange p × (length (now plain) ≡ size p) × (length (now masks) ≡ size p) × (length (now noise) ≡ size p) × (length (now key) ≡ size p) × (length (now a) ≡ size p) × (length (now b) ≡ size p) ⌝ }
-    ensures { λ _. ⌜ (now (a .exit) ≡ now (masks .entry)) × (now (b .exit) ≡ freshBody (size p) (bitWords (now (plain .entry))) (now (noise .entry)) (now (masks .entry)) (now (key .entry))) ⌝ }
+    ensures { λ _. ⌜ (now (a .exit) ≡ now (masks .entry)) × (now (b .exit) ≡ freshBody (size p) (wordsOfBits (now (plain .entry))) (now (noise .entry)) (now (masks .entry)) (now (key .entry))) ⌝ }
 {
     bits_into(plain, b);
     seal(p, masks, noise, key, a, b);
@@ -201,9 +201,9 @@ pub fn encrypt_bool(
     a: &mut [u32],
     b: &mut [u32],
 ) -> Answer
-    ensures said { λ r. ⌜ r ≡ answer (encryptNumber p (length (now (plain .entry))) (length (now (masks .entry))) (length (now (noise .entry))) (now (key .entry)) (length (now (a .entry))) (length (now (b .entry)))) ⌝ }
+    ensures said { λ r. ⌜ r ≡ answer (encryptPairNumber p (length (now (plain .entry))) (length (now (masks .entry))) (length (now (noise .entry))) (now (key .entry)) (length (now (a .entry))) (length (now (b .entry)))) ⌝ }
     ensures mask { λ r. ⌜ now (a .exit) ≡ maskOut p (length (now (plain .entry))) (now (masks .entry)) (now (noise .entry)) (now (key .entry)) (now (a .entry)) (now (b .entry)) ⌝ }
-    ensures body { λ r. ⌜ now (b .exit) ≡ bodyOut p (length (now (plain .entry))) (bitWords (now (plain .entry))) (now (masks .entry)) (now (noise .entry)) (now (key .entry)) (now (a .entry)) (now (b .entry)) ⌝ }
+    ensures body { λ r. ⌜ now (b .exit) ≡ bodyOut p (length (now (plain .entry))) (wordsOfBits (now (plain .entry))) (now (masks .entry)) (now (noise .entry)) (now (key .entry)) (now (a .entry)) (now (b .entry)) ⌝ }
 {
     let number = encrypt_number(
         p,
@@ -222,7 +222,7 @@ pub fn encrypt_bool(
 
 // The refusal of a decryption, or 0.
 fn decrypt_number(p: Params, la: usize, lb: usize, key: &[u32], lo: usize) -> u32
-    ensures { λ r. ⌜ r ≡ decryptNumber p la lb (now (key .entry)) lo ⌝ }
+    ensures { λ r. ⌜ r ≡ decryptPairNumber p la lb (now (key .entry)) lo ⌝ }
 {
     let s = params::sizes_of(p);
     if s.number != 0 {
@@ -264,7 +264,7 @@ fn open_into(p: Params, a: &[u32], b: &[u32], key: &[u32], out: &mut [u8])
 
 // Decryption to N bits, as bytes 0 or 1: `TRLWELv1::decrypt_bool`.
 pub fn decrypt_bool(p: Params, a: &[u32], b: &[u32], key: &[u32], out: &mut [u8]) -> Answer
-    ensures said { λ r. ⌜ r ≡ answer (decryptNumber p (length (now (a .entry))) (length (now (b .entry))) (now (key .entry)) (length (now (out .entry)))) ⌝ }
+    ensures said { λ r. ⌜ r ≡ answer (decryptPairNumber p (length (now (a .entry))) (length (now (b .entry))) (now (key .entry)) (length (now (out .entry)))) ⌝ }
     ensures written { λ r. ⌜ now (out .exit) ≡ decryptOut p (now (a .entry)) (now (b .entry)) (now (key .entry)) (now (out .entry)) ⌝ }
 {
     let number = decrypt_number(p, a.len(), b.len(), key, out.len());

@@ -17,7 +17,7 @@ use borrow.Author.Tests.{eq-eqb, eqb-true}
 use Rattle.ring.specs.Word.{Q, Q-pos, at, neg}
 use Rattle.ring.proofs.Tab.{at-tab, length-tab}
 use Rattle.params.proofs.Answers.{passed}
-use Rattle.utils.specs.Torus.{word, signed, fractionWord, doubleAt, words, vecNumber}
+use Rattle.utils.specs.Torus.{word, signed, fractionWord, doubleAt, wordsOfDoubles, vecNumber}
 
 -- 0 has no sign
 pub signed-zero : (s : Bool) → signed s 0 ≡ 0
@@ -67,10 +67,10 @@ round-trip x t h v =
 
 -- ---- the slice form
 -- the word at a place is that of the double there
-pub at-words : (d : List Float) (i : ℕ) → i < length d → at (words d) i ≡ word (doubleAt d i)
+pub at-words : (d : List Float) (i : ℕ) → i < length d → at (wordsOfDoubles d) i ≡ word (doubleAt d i)
 at-words d i h = at-tab (length d) (λ j. word (doubleAt d j)) i h
 
-pub length-words : (d : List Float) → length (words d) ≡ length d
+pub length-words : (d : List Float) → length (wordsOfDoubles d) ≡ length d
 length-words d = length-tab (length d) (λ j. word (doubleAt d j))
 
 -- a call that was not refused was lent slices of one length, and the other way round

@@ -33,8 +33,8 @@ abbrev pub doubleAt : List Float → ℕ → Float
 doubleAt d i = getD d i nan
 
 -- The words of a list of doubles, each in its double's place.
-abbrev pub words : List Float → List ℕ
-words d = tab (length d) (λ i. word (doubleAt d i))
+abbrev pub wordsOfDoubles : List Float → List ℕ
+wordsOfDoubles d = tab (length d) (λ i. word (doubleAt d i))
 
 -- Refusal 2 where the slice of doubles and the slice for the words differ in length, else 0 (01, 'Refusal numbers').
 abbrev pub vecNumber : ℕ → ℕ → ℕ

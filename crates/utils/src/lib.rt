@@ -5,7 +5,7 @@ ghost use lib.Ieee.Exact.{HasValue};
 ghost use Rattle.ring.specs.Word.{Q};
 ghost use lib.ListN.{length};
 ghost use Rattle.params.specs.Refusal.{answer, ifDone};
-ghost use Rattle.utils.specs.Torus.{word, words, vecNumber, IsFraction, IsScaledFraction};
+ghost use Rattle.utils.specs.Torus.{word, wordsOfDoubles, vecNumber, IsFraction, IsScaledFraction};
 use params::Answer;
 
 // A word: it counts 2^-32 of a turn (`Torus` of src/params.rs).
@@ -70,7 +70,7 @@ fn vec_number(doubles: usize, places: usize) -> u32
 // The words of d into out, which is as long.
 fn words_into(d: &[f64], out: &mut [u32])
     requires { ⌜ length (now d) ≡ length (now out) ⌝ }
-    ensures { λ r. ⌜ now (out .exit) ≡ words (now (d .entry)) ⌝ }
+    ensures { λ r. ⌜ now (out .exit) ≡ wordsOfDoubles (now (d .entry)) ⌝ }
 {
     let mut i = 0;
     while i < d.len() {
@@ -83,7 +83,7 @@ fn words_into(d: &[f64], out: &mut [u32])
 // The word of each double of d into the same place of out. Refused with 2, and nothing is written, where their lengths differ.
 pub fn f64_to_torus_vec(d: &[f64], out: &mut [u32]) -> Answer
     ensures said { λ r. ⌜ r ≡ answer (vecNumber (length (now (d .entry))) (length (now (out .entry)))) ⌝ }
-    ensures written { λ r. ⌜ now (out .exit) ≡ ifDone (vecNumber (length (now (d .entry))) (length (now (out .entry)))) (words (now (d .entry))) (now (out .entry)) ⌝ }
+    ensures written { λ r. ⌜ now (out .exit) ≡ ifDone (vecNumber (length (now (d .entry))) (length (now (out .entry)))) (wordsOfDoubles (now (d .entry))) (now (out .entry)) ⌝ }
 {
     let number = vec_number(d.len(), out.len());
     if number == 0 {

@@ -7,11 +7,11 @@ use native.Mathlib.Omega.{arith}
 use lib.ListN.{length}
 use Rattle.params.specs.Sizes.{size}
 use Rattle.params.proofs.Ranges.{in-range}
-use Rattle.decomposition.specs.Pair.{Pair}
 use Rattle.blind_rotation.specs.Blind.{stepsTo}
 use Rattle.blind_rotation.proofs.Steps.{pair, steps-more}
 use Rattle.blind_rotation.proofs.all_steps.Statement.{statement}
 use Rattle.blind_rotation.proofs.all_steps.Tie as tie
+use Rattle.ring.specs.Pair.{Pair}
 
 abbrev Inv-loop : tie.InvT-loop
 Inv-loop p src key ta₀ tb₀ a₀ b₀ steps i₀ ta tb a b i =

@@ -9,12 +9,12 @@ use Rattle.params.proofs.Ranges.{in-range}
 use Rattle.rotation.specs.Amount.{bodyAmount}
 use Rattle.rotation.proofs.Amounts.{body-to}
 use Rattle.rotation.proofs.Rotate.{rotate-written}
-use Rattle.decomposition.specs.Pair.{Pair}
 use Rattle.blind_rotation.specs.Blind.{stepsTo, blindRotated}
 use Rattle.blind_rotation.proofs.Steps.{amount-is, start-is}
 use borrow.Author.Needs.{needs}
 use Rattle.blind_rotation.proofs.rotate_from.Statement.{statement}
 use Rattle.blind_rotation.proofs.rotate_from.Tie as tie
+use Rattle.ring.specs.Pair.{Pair}
 
 mul-t11 : tie.Need-mul-t11
 mul-t11 c = omega (arith, c .before .before .before .before .before .before .before .pre .1 .0)

@@ -1,12 +1,12 @@
 -- `blind_rotation::rotate_test` meets its contract: the vector is the gates', worked out.
 -- Assumes nothing.
 use mathlib.Core.Path.{ap, _∙_}
-use Rattle.decomposition.specs.Pair.{Pair}
 use Rattle.blind_rotation.specs.Blind.{blindRotated}
 use Rattle.blind_rotation.proofs.Steps.{test-put}
 use borrow.Author.Needs.{needs}
 use Rattle.blind_rotation.proofs.rotate_test.Statement.{statement}
 use Rattle.blind_rotation.proofs.rotate_test.Tie as tie
+use Rattle.ring.specs.Pair.{Pair}
 
 rotate-from-requires : tie.Need-rotate-from-requires
 rotate-from-requires c κs = let r = c .before .before .before .before .before .before .before .before .before .before .before .before .before .before .before .before .before .pre in (r .0, (r .1 .0, r .1 .1, c .before .before .before .before .before .before .before .before .gen-testvec .kept .1 .0 ∙ r .1 .2, c .before .before .before .before .before .before .before .before .gen-testvec .kept .1 .1 .0 ∙ r .1 .3, r .1 .4, r .1 .5))

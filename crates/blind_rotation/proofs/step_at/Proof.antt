@@ -8,11 +8,11 @@ use Rattle.key.specs.Bits.{bitRows}
 use Rattle.key.proofs.Rows.{bit-length}
 use Rattle.rotation.specs.Amount.{maskAmount}
 use Rattle.rotation.proofs.Amounts.{mask-below}
-use Rattle.decomposition.specs.Pair.{Pair}
 use Rattle.blind_rotation.proofs.Steps.{pair, amount-is, rows-is, step-is}
 use borrow.Author.Needs.{needs}
 use Rattle.blind_rotation.proofs.step_at.Statement.{statement}
 use Rattle.blind_rotation.proofs.step_at.Tie as tie
+use Rattle.ring.specs.Pair.{Pair}
 
 -- the rows that the step uses
 rows : (c : tie.After-bit-rows) → let g = c .before .before .before .before .before .before .before .before .args in c .bit-rows .result .now ≡ bitRows (g .p) (g .key .now) (g .i)

@@ -10,10 +10,11 @@ use Rattle.ring.specs.Sums.{tab}
 use Rattle.ring.proofs.Tab.{tab-none, tab-done, length-filled}
 use Rattle.params.specs.Sizes.{size}
 use Rattle.params.proofs.Ranges.{l-to}
-use Rattle.decomposition.specs.Pair.{Pair, decomposed}
+use Rattle.decomposition.specs.Pair.{decomposed}
 use Rattle.decomposition.proofs.Flat.{flat, flat-more, part-length}
 use Rattle.decomposition.proofs.decompose_into.Statement.{statement}
 use Rattle.decomposition.proofs.decompose_into.Tie as tie
+use Rattle.ring.specs.Pair.{Pair}
 
 abbrev Inv-loop : tie.InvT-loop
 Inv-loop p off a b out₀ n rows r₀ at₀ out r at =

@@ -4,10 +4,11 @@ use Prim.Native.Nat.{_-_}
 use native.Mathlib.Nat.{mul-le-mul-right}
 use native.Mathlib.Omega.{arith}
 use lib.Pow.{pow-pos}
-use Rattle.decomposition.specs.Digit.{fieldOf, digitOf}
+use Rattle.decomposition.specs.Digit.{digitOf}
 use borrow.Author.Needs.{needs}
 use Rattle.decomposition.proofs.digit_word.Statement.{statement}
 use Rattle.decomposition.proofs.digit_word.Tie as tie
+use Rattle.ring.specs.Word.{fieldOf}
 
 mul-low : tie.Need-mul-low
 mul-low c = let s = c .before .before in omega (arith, mul-le-mul-right (s .args .p .bgbit) (s .pre .1 .0))

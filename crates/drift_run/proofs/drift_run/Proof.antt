@@ -9,7 +9,7 @@ use Rattle.params.specs.declared.Answer.{Answer}
 use Rattle.params.proofs.Answers.{kept, done}
 use Rattle.params.proofs.Ranges.{in-range}
 use Rattle.drift_run.specs.Refusals.{driftAnswer}
-use Rattle.drift_run.specs.Run.{insideAfter, wiresAfter, outputsAfter, driftsAfter}
+use Rattle.drift_run.specs.Run.{insideAfter, driftWiresAfter, driftOutputsAfter, driftsAfter}
 use Rattle.drift_run.proofs.Checks.{run-good}
 use Rattle.drift_run.proofs.Results.{drifts-are, inside-is, right-is}
 use borrow.Author.Needs.{needs}
@@ -21,7 +21,7 @@ never : false ≡ true → ⊥
 never h = let z : _≡_ {A = ℕ} 0 1 = cc in let q : ⊥ = omega arith in q
 
 returns : tie.Need-returns
-unfolding insideAfter wiresAfter outputsAfter driftsAfter
+unfolding insideAfter driftWiresAfter driftOutputsAfter driftsAfter
 returns c =
     let g = c .before .before .before .before .before .before .before .before .before .before .before .before .before .args in
     let e = c .before .before .run-answer .ensures in
@@ -41,7 +41,7 @@ same-length-3 : tie.Need-same-length-3
 same-length-3 c = c .before .drifts .given
 
 returns-2 : tie.Need-returns-2
-unfolding insideAfter wiresAfter outputsAfter driftsAfter
+unfolding insideAfter driftWiresAfter driftOutputsAfter driftsAfter
 returns-2 c =
     let g = c .before .before .before .before .before .before .before .before .before .before .before .before .before .before .before .before .before .before .before .before .before .before .before .args in
     let e = c .before .before .before .before .before .before .before .before .before .before .before .before .run-answer .ensures in

@@ -4,7 +4,7 @@ use mathlib.Core.Path.{_≡_, ap, ap₂, _∙_}
 use Prim.Native.Nat.{ℕ, _/_, _%_}
 use native.Mathlib.Omega.{arith}
 use lib.Pow.{pow-pos}
-use Rattle.switching.specs.Switched.{weight, fieldOf}
+use Rattle.switching.specs.Switched.{fieldWeight, switchField}
 use Rattle.switching.proofs.Fields.{fields-fit}
 use borrow.Author.Needs.{needs}
 use Rattle.switching.proofs.field.Statement.{statement}
@@ -23,7 +23,7 @@ rem-result : tie.Need-rem-result
 rem-result c = rw (c .two-to2 .ensures) (pow-pos _)
 
 returns : tie.Need-returns
-unfolding fieldOf weight
+unfolding switchField fieldWeight
 returns c = ap₂ (λ (w b : ℕ). c .before .before .before .args .x / w % b) (c .before .two-to .ensures) (c .two-to2 .ensures)
 
 pub field-spec : {M : Type 1} → statement M

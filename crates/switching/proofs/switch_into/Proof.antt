@@ -13,7 +13,7 @@ use Rattle.ring.specs.Sums.{sumTo, tab}
 use Rattle.ring.specs.Loop.{accTo}
 use Rattle.ring.proofs.Loop.{length-add, acc-none, acc-more, acc-done}
 use Rattle.ring.proofs.Tab.{length-tab}
-use Rattle.switching.specs.Switched.{rounding, rounded, fieldOf, fieldAt, takes, startWord, switched}
+use Rattle.switching.specs.Switched.{rounding, rounded, switchField, maskField, takes, startWord, switched}
 use Rattle.switching.proofs.Rows.{start-below}
 use borrow.Author.Needs.{needs}
 use Rattle.switching.proofs.switch_into.Statement.{statement}
@@ -21,7 +21,7 @@ use Rattle.switching.proofs.switch_into.Tie as tie
 
 -- what mask i adds to word x
 abbrev term : Params → List ℕ → List ℕ → ℕ → ℕ → ℕ
-term p ksk src x i = sumTo (p .t) (λ j. takes p ksk i j (fieldAt p src i j) x)
+term p ksk src x i = sumTo (p .t) (λ j. takes p ksk i j (maskField p src i j) x)
 
 abbrev Inv-loop : tie.InvT-loop
 Inv-loop p src ksk out₀ m r i₀ out i = (i ≤ length src - 1) × (length out ≡ p .n + 1) × (out ≡ accTo (p .n + 1) (startWord p (at src (size p))) (term p ksk src) i)
@@ -54,7 +54,7 @@ use-mask-requires c κs =
     (d .pre .0, omega arith, d .pre .2, c .before .before .before .before .loop .inv .1)
 
 loop-again : tie.Need-loop-again Inv-loop μ-loop
-unfolding rounded rounding fieldAt
+unfolding rounded rounding maskField
 loop-again c =
     let g = c .before .before .before .before .before .before .before .before .before .before .before .before .before .before .before .before .before .before .args in
     let l = c .before .before .before .before .before .before .before .loop in
@@ -63,7 +63,7 @@ loop-again c =
       omega arith,
       ap length (c .before .before .use-mask .ensures) ∙ length-add _ _ ∙ l .inv .1,
       acc-more (g .p .n + 1) (startWord (g .p) (at (g .src .now) (size (g .p)))) (term (g .p) (g .ksk .now) (g .src .now)) (l .i) _
-          (λ x h. ap (λ (a : ℕ). sumTo (g .p .t) (λ j. takes (g .p) (g .ksk .now) (l .i) j (fieldOf (g .p) a j) x)) r) (l .inv .2) (c .before .before .use-mask .ensures),
+          (λ x h. ap (λ (a : ℕ). sumTo (g .p .t) (λ j. takes (g .p) (g .ksk .now) (l .i) j (switchField (g .p) a j) x)) r) (l .inv .2) (c .before .before .use-mask .ensures),
     )
 
 returns : tie.Need-returns Inv-loop μ-loop

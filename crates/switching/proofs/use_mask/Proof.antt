@@ -10,7 +10,7 @@ use Rattle.params.specs.Sizes.{base}
 use Rattle.ring.specs.Word.{Q, at}
 use Rattle.ring.specs.Loop.{addBy, accTo}
 use Rattle.ring.proofs.Loop.{length-add, acc-none, acc-more, acc-done}
-use Rattle.switching.specs.Switched.{fieldOf, takes}
+use Rattle.switching.specs.Switched.{switchField, takes}
 use Rattle.switching.proofs.Fields.{field-below}
 use Rattle.switching.proofs.Rows.{as-tab}
 use Rattle.switching.proofs.use_mask.Statement.{statement}
@@ -18,7 +18,7 @@ use Rattle.switching.proofs.use_mask.Tie as tie
 
 -- what field k of the mask adds to word x
 abbrev term : Params → List ℕ → ℕ → ℕ → ℕ → ℕ → ℕ
-term p ksk i a x k = takes p ksk i k (fieldOf p a k) x
+term p ksk i a x k = takes p ksk i k (switchField p a k) x
 
 abbrev Inv-loop : tie.InvT-loop
 Inv-loop p ksk i a out₀ t j₀ out j = (j ≤ p .t) × (length out ≡ length out₀) × (out ≡ accTo (length out₀) (λ x. at out₀ x) (term p ksk i a) j)

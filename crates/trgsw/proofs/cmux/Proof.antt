@@ -4,13 +4,13 @@ use mathlib.Core.Path.{sym, ap, _∙_}
 use Prim.Native.Nat.{ℕ}
 use lib.ListN.{length}
 use Rattle.params.specs.Refusal.{answer}
-use Rattle.decomposition.specs.Pair.{Pair}
 use Rattle.trgsw.specs.External.{cmuxOf}
 use Rattle.trgsw.specs.Refusals.{cmuxNumber}
 use Rattle.trgsw.proofs.Checks.{cmux-good, pair-done, pair-kept}
 use borrow.Author.Needs.{needs}
 use Rattle.trgsw.proofs.cmux.Statement.{statement}
 use Rattle.trgsw.proofs.cmux.Tie as tie
+use Rattle.ring.specs.Pair.{Pair}
 
 put-cmux-requires : tie.Need-put-cmux-requires
 put-cmux-requires c κs =

@@ -6,11 +6,11 @@ use Prim.Native.Nat.{ℕ}
 use native.Mathlib.Omega.{arith}
 use Rattle.ring.specs.Poly.{plus, minus}
 use Rattle.params.specs.Sizes.{size}
-use Rattle.decomposition.specs.Pair.{Pair}
 use Rattle.trgsw.specs.External.{external, cmuxOf}
 use borrow.Author.Needs.{needs}
 use Rattle.trgsw.proofs.cmux_with.Statement.{statement}
 use Rattle.trgsw.proofs.cmux_with.Tie as tie
+use Rattle.ring.specs.Pair.{Pair}
 
 -- two polynomials as a pair
 abbrev pair : List ℕ → List ℕ → Pair

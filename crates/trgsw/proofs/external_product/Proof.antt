@@ -4,13 +4,13 @@ use mathlib.Core.Path.{sym, ap, _∙_}
 use Prim.Native.Nat.{ℕ}
 use lib.ListN.{length}
 use Rattle.params.specs.Refusal.{answer}
-use Rattle.decomposition.specs.Pair.{Pair}
 use Rattle.trgsw.specs.External.{external}
 use Rattle.trgsw.specs.Refusals.{externalNumber}
 use Rattle.trgsw.proofs.Checks.{external-good, pair-done, pair-kept}
 use borrow.Author.Needs.{needs}
 use Rattle.trgsw.proofs.external_product.Statement.{statement}
 use Rattle.trgsw.proofs.external_product.Tie as tie
+use Rattle.ring.specs.Pair.{Pair}
 
 put-external-requires : tie.Need-put-external-requires
 put-external-requires c κs =

@@ -4,14 +4,14 @@ use mathlib.Core.Path.{sym, ap, _∙_}
 use Prim.Native.Nat.{ℕ}
 use lib.ListN.{length}
 use Rattle.params.specs.Refusal.{answer}
-use Rattle.decomposition.specs.Pair.{Pair}
 use Rattle.params.specs.Sizes.{size}
-use Rattle.trgsw.specs.External.{pairPlus, external}
+use Rattle.trgsw.specs.External.{external}
 use Rattle.trgsw.specs.Refusals.{externalNumber}
 use Rattle.trgsw.proofs.Checks.{external-good, pair-done, pair-kept}
 use borrow.Author.Needs.{needs}
 use Rattle.trgsw.proofs.external_product_add.Statement.{statement}
 use Rattle.trgsw.proofs.external_product_add.Tie as tie
+use Rattle.ring.specs.Pair.{Pair, pairPlus}
 
 add-external-requires : tie.Need-add-external-requires
 add-external-requires c κs =

@@ -4,12 +4,12 @@ use mathlib.Core.Path.{_∙_}
 use Prim.Native.Nat.{_+_, _*_, _-_, _≤_}
 use native.Mathlib.Omega.{arith}
 use lib.ListN.{length}
-use Rattle.decomposition.specs.Pair.{Pair}
 use Rattle.decomposition.proofs.Flat.{length-pair, part-length}
 use Rattle.trgsw.proofs.Checks.{row-fits, half-a, half-b, digits-put, product-added}
 use borrow.Author.Needs.{needs}
 use Rattle.trgsw.proofs.external_row.Statement.{statement}
 use Rattle.trgsw.proofs.external_row.Tie as tie
+use Rattle.ring.specs.Pair.{Pair}
 
 -- the row lies in the rows
 fit : (s : tie.Start) → s .args .r * (length (s .args .a .now) + length (s .args .a .now)) + length (s .args .a .now) + length (s .args .a .now) ≤ length (s .args .rows .now)

@@ -9,13 +9,13 @@ use lib.ListN.{length, drop}
 use Rattle.params.specs.declared.Params.{Params}
 use Rattle.params.specs.Sizes.{size, bitWords}
 use Rattle.params.proofs.Ranges.{l-to}
-use Rattle.key.specs.Generation.{joined}
 use Rattle.key.proofs.Rows.{part-length}
 use Rattle.key.proofs.Joins.{joined-none, joined-more, joined-done}
 use Rattle.bootstrapping.specs.Rows.{bitDraws, keyBit, bootstrappingKey}
 use Rattle.bootstrapping.proofs.Parts.{fits, twice-draws, draws-small, bit-drawn}
 use Rattle.bootstrapping.proofs.rows.bits_into.Statement.{statement}
 use Rattle.bootstrapping.proofs.rows.bits_into.Tie as tie
+use Rattle.ring.specs.Lists.{joined}
 
 -- the masks of a bit, as the code reckons them
 abbrev draws : Params → List ℕ → ℕ

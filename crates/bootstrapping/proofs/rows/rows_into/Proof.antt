@@ -8,13 +8,13 @@ use borrow.Author.Needs.{needs}
 use lib.ListN.{length, drop}
 use Rattle.params.specs.Sizes.{size}
 use Rattle.params.proofs.Ranges.{size-to, l-to}
-use Rattle.key.specs.Generation.{joined}
 use Rattle.key.proofs.Rows.{part-length}
 use Rattle.key.proofs.Joins.{joined-none, joined-more, joined-done}
 use Rattle.bootstrapping.specs.Rows.{torusRow, torusRows}
 use Rattle.bootstrapping.proofs.Parts.{fits, row-drawn}
 use Rattle.bootstrapping.proofs.rows.rows_into.Statement.{statement}
 use Rattle.bootstrapping.proofs.rows.rows_into.Tie as tie
+use Rattle.ring.specs.Lists.{joined}
 
 abbrev Inv-loop : tie.InvT-loop
 Inv-loop p m masks noise key out₀ n width rows r₀ out r =

@@ -1,13 +1,12 @@
 -- `circuit::form::gate_operands` meets its contract: each return rewrites with the tests that led there.
 -- Assumes nothing.
 use mathlib.Core.Path.{_≡_, sym, ap, _∙_}
-use mathlib.Core.Bool.{Bool}
+use mathlib.Core.Bool.{Bool, cond}
 use mathlib.Core.List.{List}
 use Prim.Native.Nat.{ℕ, _+_, _*_}
 use native.Mathlib.Omega.{arith}
 use borrow.Author.Tests.{not-true, not-false}
 use lib.Dec.{ltb, eqb}
-use Rattle.params.specs.Refusal.{pick}
 use Rattle.circuit.specs.Kinds.{kindOf}
 use Rattle.circuit.specs.Form.{fieldAt, inputs, gatePlace, kindAt, operandGood, operandsAnswer}
 use borrow.Author.Needs.{needs}
@@ -16,7 +15,7 @@ use Rattle.circuit.proofs.form.gate_operands.Tie as tie
 
 -- an operand, from what was read of it
 as-good : (bs : List ℕ) (g x i : ℕ) {needed own wire : ℕ} {r : Bool} → i ≡ gatePlace g + 2 + 2 * x → needed ≡ kindOf (kindAt bs g) .operands → own ≡ inputs bs + g → wire ≡ fieldAt bs i
-    → r ≡ pick (ltb x needed) (ltb wire own) (eqb wire 0) → r ≡ operandGood bs g x
+    → r ≡ cond (ltb x needed) (ltb wire own) (eqb wire 0) → r ≡ operandGood bs g x
 unfolding operandGood
 as-good bs g x i ei en eo ew e = e ∙ rw (en, eo, ew, ei)
 

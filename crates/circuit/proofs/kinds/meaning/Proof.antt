@@ -6,10 +6,10 @@ use native.Mathlib.Omega.{arith}
 use lib.ListN.{getD}
 use lib.Pow.{pow-pos}
 use borrow.Author.Needs.{needs}
-use Rattle.circuit.specs.Plain.{truth}
 use Rattle.circuit.proofs.Columns.{truthTable, meaning-past, meaning-entry, byte-small}
 use Rattle.circuit.proofs.kinds.meaning.Statement.{statement}
 use Rattle.circuit.proofs.kinds.meaning.Tie as tie
+use Rattle.ring.specs.Bit.{truth}
 
 returns : tie.Need-returns
 returns c = let a = c .before .args in meaning-past (a .kind) (a .a) (a .b) (a .c) (c .if1 .taken)

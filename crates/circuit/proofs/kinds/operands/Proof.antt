@@ -3,7 +3,7 @@
 use mathlib.Core.Path.{ap, sym, _∙_}
 use native.Mathlib.Omega.{arith}
 use borrow.Author.Tests.{lt-ltb, le-ltb}
-use Rattle.circuit.specs.Kinds.{Kind}
+use Rattle.circuit.specs.Kinds.{Entry}
 use Rattle.circuit.proofs.Columns.{kind-past, operands-compared}
 use Rattle.circuit.proofs.kinds.operands.Statement.{statement}
 use Rattle.circuit.proofs.kinds.operands.Tie as tie
@@ -21,7 +21,7 @@ returns-4 : tie.Need-returns-4
 returns-4 c = let k = c .before .before .before .before .args .kind in let h = c .if4 .taken in sym (operands-compared k (omega (arith, h)) ∙ rw (le-ltb k 2 (c .before .before .before .if1 .left), le-ltb k 3 (c .before .before .if2 .left), le-ltb k 13 (c .before .if3 .left)))
 
 returns-5 : tie.Need-returns-5
-returns-5 c = sym (ap (λ (k : Kind). k .operands) (kind-past (c .before .before .before .before .args .kind) (c .if4 .left)))
+returns-5 c = sym (ap (λ (k : Entry). k .operands) (kind-past (c .before .before .before .before .args .kind) (c .if4 .left)))
 
 pub operands-spec : {M : Type 1} → statement M
 operands-spec = tie.close

@@ -4,13 +4,13 @@ use mathlib.Core.Path.{ap, sym}
 use native.Mathlib.Omega.{arith}
 use lib.Dec.{lit≤}
 use borrow.Author.Needs.{needs}
-use Rattle.circuit.specs.Kinds.{Kind}
+use Rattle.circuit.specs.Kinds.{Entry}
 use Rattle.circuit.proofs.Columns.{kind-past, work-entry}
 use Rattle.circuit.proofs.kinds.work_of.Statement.{statement}
 use Rattle.circuit.proofs.kinds.work_of.Tie as tie
 
 returns : tie.Need-returns
-returns c = (sym (ap (λ (k : Kind). k .work) (kind-past (c .before .args .kind) (c .if1 .taken))), lit≤ tt)
+returns c = (sym (ap (λ (k : Entry). k .work) (kind-past (c .before .args .kind) (c .if1 .taken))), lit≤ tt)
 
 cast-result : tie.Need-cast-result
 cast-result c = omega (arith, work-entry (c .before .args .kind) (c .if1 .left))

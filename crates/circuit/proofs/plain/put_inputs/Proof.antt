@@ -9,13 +9,13 @@ use denote.Ref.{now}
 use Rattle.ring.specs.Word.{at}
 use Rattle.ring.specs.Sums.{tab}
 use Rattle.ring.proofs.Tab.{tab-none, tab-more, tab-part}
-use Rattle.circuit.specs.Plain.{truth, bit}
 use Rattle.circuit.proofs.Columns.{bit-byte}
 use Rattle.circuit.proofs.plain.put_inputs.Statement.{statement}
 use Rattle.circuit.proofs.plain.put_inputs.Tie as tie
+use Rattle.ring.specs.Bit.{truth, bitNumber}
 
 abbrev Inv-loop : tie.InvT-loop
-Inv-loop ins bits₀ i₀ bits i = (i ≤ length ins) × (length bits ≡ length bits₀) × (bits ≡ tab i (λ j. bit (truth (at ins j))) ++ drop i bits₀)
+Inv-loop ins bits₀ i₀ bits i = (i ≤ length ins) × (length bits ≡ length bits₀) × (bits ≡ tab i (λ j. bitNumber (truth (at ins j))) ++ drop i bits₀)
 
 abbrev μ-loop : tie.MeasureT-loop
 μ-loop ins bits₀ i₀ bits i = length ins - i
@@ -28,12 +28,12 @@ loop-again c =
     let a = c .before .before .before .args in
     let i = c .before .before .loop .inv in
     let ins = now (a .ins) in
-    (omega arith, simp length-set (i .1), tab-more (λ j. bit (truth (at ins j))) (now (a .bits)) (c .before .before .loop .i) (omega arith) (i .2) (bit-byte (truth (at ins (c .before .before .loop .i)))))
+    (omega arith, simp length-set (i .1), tab-more (λ j. bitNumber (truth (at ins j))) (now (a .bits)) (c .before .before .loop .i) (omega arith) (i .2) (bit-byte (truth (at ins (c .before .before .loop .i)))))
 
 returns : tie.Need-returns Inv-loop μ-loop
 returns c =
     let a = c .before .before .args in
-    tab-part (λ j. bit (truth (at (now (a .ins)) j))) (now (a .bits)) (c .before .loop .i) (length (now (a .ins))) (omega arith) (omega arith) (c .before .loop .inv .2)
+    tab-part (λ j. bitNumber (truth (at (now (a .ins)) j))) (now (a .bits)) (c .before .loop .i) (length (now (a .ins))) (omega arith) (omega arith) (c .before .loop .inv .2)
 
 pub put-inputs-spec : {M : Type 1} → statement M
 put-inputs-spec =

@@ -8,7 +8,6 @@ use lib.ListN.{length, drop, length-set}
 use Rattle.ring.specs.Word.{at}
 use Rattle.ring.specs.Sums.{tab}
 use Rattle.ring.proofs.Tab.{tab-none, tab-more, tab-part}
-use Rattle.circuit.specs.Plain.{truth}
 use Rattle.encrypted_run.specs.Run.{cipherAt}
 use Rattle.encrypted_run.proofs.Ciphers.{wire-within}
 use Rattle.drift.specs.Words.{freshWord}
@@ -16,6 +15,7 @@ use Rattle.drift.specs.CircuitWords.{freshWords}
 use Rattle.drift_run.proofs.Lent.{read-length}
 use Rattle.drift_run.proofs.gates_of.inputs_into.Statement.{statement}
 use Rattle.drift_run.proofs.gates_of.inputs_into.Tie as tie
+use Rattle.ring.specs.Bit.{truth}
 
 abbrev Inv-loop : tie.InvT-loop
 Inv-loop p key ins plain drifts₀ n i₀ drifts i = (n ≡ length plain) × (i ≤ length plain) × (length drifts ≡ length drifts₀) × (drifts ≡ tab i (λ k. freshWord p key (cipherAt p ins k) (truth (at plain k))) ++ drop i drifts₀)

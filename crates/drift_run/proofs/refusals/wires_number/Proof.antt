@@ -7,7 +7,7 @@ use Rattle.circuit.specs.Form.{wires}
 use Rattle.gates.proofs.Checks.{fits, unfit}
 use Rattle.encrypted_run.proofs.Ciphers.{words-to}
 use Rattle.encrypted_run.proofs.Operands.{inputs-are, gates-are}
-use Rattle.drift_run.specs.Refusals.{wiresNumber}
+use Rattle.drift_run.specs.Refusals.{driftWiresNumber}
 use borrow.Author.Needs.{needs}
 use Rattle.drift_run.proofs.refusals.wires_number.Statement.{statement}
 use Rattle.drift_run.proofs.refusals.wires_number.Tie as tie
@@ -31,15 +31,15 @@ mul-if1 : tie.Need-mul-if1
 mul-if1 c = let w = words-to (c .before .before .before .before .args .p) _ (c .before .before .before .before .pre .0) (few (c .before)) in omega arith
 
 returns : tie.Need-returns
-unfolding wiresNumber
+unfolding driftWiresNumber
 returns c = simp (unfit (c .if1 .taken) (long (c .before .before)))
 
 returns-2 : tie.Need-returns-2
-unfolding wiresNumber
+unfolding driftWiresNumber
 returns-2 c = simp (fits (c .before .if1 .left) (long (c .before .before .before)), unfit (c .if2 .taken) (counted (c .before .before .before)))
 
 returns-3 : tie.Need-returns-3
-unfolding wiresNumber
+unfolding driftWiresNumber
 returns-3 c = simp (fits (c .before .if1 .left) (long (c .before .before .before)), fits (c .if2 .left) (counted (c .before .before .before)))
 
 pub wires-number-spec : {M : Type 1} → statement M

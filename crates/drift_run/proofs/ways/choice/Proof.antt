@@ -2,9 +2,8 @@
 -- Assumes nothing.
 use mathlib.Core.Path.{ap, _∙_}
 use Prim.Native.Nat.{ℕ, _+_, _%_}
-use Rattle.ring.specs.Word.{Q, neg}
+use Rattle.ring.specs.Word.{Q, neg, eighth}
 use Rattle.tlwe.specs.Plain.{bitWord}
-use Rattle.gates.specs.Kind.{eighth}
 use Rattle.drift.specs.Short.{carriedWord, shortWord}
 use Rattle.drift_run.proofs.Told.{told-two, carried-sum}
 use borrow.Author.Needs.{needs}

@@ -3,11 +3,11 @@
 use mathlib.Core.Path.{ap}
 use Prim.Native.Nat.{ℕ}
 use lib.Dec.{ltb}
-use Rattle.gates.specs.Kind.{eighth}
 use Rattle.drift.specs.Words.{insideWord}
 use borrow.Author.Needs.{needs}
 use Rattle.drift_run.proofs.ways.word_inside.Statement.{statement}
 use Rattle.drift_run.proofs.ways.word_inside.Tie as tie
+use Rattle.ring.specs.Word.{eighth}
 
 returns : tie.Need-returns
 unfolding insideWord

@@ -1,10 +1,11 @@
 -- `egl_c::drift_c::egl_drift_run` meets its contract: it packs what the routine answers, and the routine has written.
 -- Assumes nothing.
 use mathlib.Core.Path.{ap, ap₂, _∙_}
-use Rattle.egl_c.specs.Packed.{packedTold, bitNumber}
+use Rattle.egl_c.specs.Packed.{packedTold}
 use borrow.Author.Needs.{needs}
 use Rattle.egl_c.proofs.drift_c.egl_drift_run.Statement.{statement}
 use Rattle.egl_c.proofs.drift_c.egl_drift_run.Tie as tie
+use Rattle.ring.specs.Bit.{bitNumber}
 
 same-length : tie.Need-same-length
 same-length c = c .before .before .before .before .before .before .before .before .wires .given

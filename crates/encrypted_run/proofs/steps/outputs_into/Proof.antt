@@ -8,7 +8,6 @@ use borrow.Author.Needs.{needs}
 use denote.Ref.{now}
 use lib.ListN.{length, take, drop, length-append}
 use Rattle.params.specs.declared.Params.{Params}
-use Rattle.key.specs.Generation.{joined}
 use Rattle.key.proofs.Joins.{joined-none, joined-done}
 use Rattle.circuit.specs.Form.{outputs, wires, outputAt}
 use Rattle.encrypted_run.specs.Refusals.{Within}
@@ -18,6 +17,7 @@ use Rattle.encrypted_run.proofs.Operands.{outputs-are, there}
 use Rattle.encrypted_run.proofs.Wires.{put-next, joined-next}
 use Rattle.encrypted_run.proofs.steps.outputs_into.Statement.{statement}
 use Rattle.encrypted_run.proofs.steps.outputs_into.Tie as tie
+use Rattle.ring.specs.Lists.{joined}
 
 -- output o's ciphertext
 abbrev outputCipher : Params → List ℕ → List ℕ → ℕ → List ℕ

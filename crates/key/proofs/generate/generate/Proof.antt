@@ -8,12 +8,13 @@ use native.Mathlib.Omega.{arith}
 use lib.ListN.{length, drop}
 use Rattle.params.specs.declared.Params.{Params}
 use Rattle.params.specs.Sizes.{switchingRows}
-use Rattle.key.specs.Generation.{rowOuter, rowField, rowDigit, generatedRow, joined, generated}
+use Rattle.key.specs.Generation.{rowOuter, rowField, rowDigit, generatedRow, generated}
 use Rattle.key.proofs.Rows.{part-length, row-ends}
 use Rattle.key.proofs.Joins.{joined-none, joined-more, joined-done}
 use borrow.Author.Needs.{needs}
 use Rattle.key.proofs.generate.generate.Statement.{statement}
 use Rattle.key.proofs.generate.generate.Tie as tie
+use Rattle.ring.specs.Lists.{joined}
 
 -- row number r
 abbrev rowAt : Params → List ℕ → List ℕ → List ℕ → List ℕ → ℕ → List ℕ

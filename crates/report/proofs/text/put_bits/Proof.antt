@@ -7,13 +7,13 @@ use native.Mathlib.Omega.{arith}
 use lib.ListN.{length, getD, length-set}
 use denote.Ref.{now}
 use Rattle.ring.specs.Sums.{tab}
-use Rattle.circuit.specs.Plain.{truth}
 use Rattle.circuit.proofs.Columns.{byte-small}
 use Rattle.report.specs.Splice.{splice}
 use Rattle.report.specs.Text.{bitChar}
 use Rattle.report.proofs.Spliced.{splice-start, splice-more, char-byte}
 use Rattle.report.proofs.text.put_bits.Statement.{statement}
 use Rattle.report.proofs.text.put_bits.Tie as tie
+use Rattle.ring.specs.Bit.{truth}
 
 abbrev Inv-loop : tie.InvT-loop
 Inv-loop out₀ at bits i₀ out i = (i ≤ length bits) × (length out ≡ length out₀) × (out ≡ splice out₀ at (tab i (λ j. bitChar (getD bits j 0))))

@@ -5,7 +5,7 @@ use Prim.Native.Nat.{ℕ, _+_}
 use native.Mathlib.Omega.{arith}
 use borrow.Author.Tests.{eq-eqb, ne-eqb}
 use Rattle.params.specs.Ranges.{paramsNumber}
-use Rattle.tlwe.specs.Level.{dimension, words}
+use Rattle.tlwe.specs.Level.{dimension, cipherWords}
 use Rattle.tlwe.specs.Encrypt.{encryptLengths}
 use Rattle.tlwe.proofs.Checks.{none, some}
 use borrow.Author.Needs.{needs}
@@ -50,7 +50,7 @@ returns-4 c =
     let d = c .before .before .before .before .dimension-of .ensures in
     let m = some (a .p) (a .level) (λ e. c .before .before .before .if1 .left (d ∙ e)) in
     let e = d ∙ m .masks in
-    simp (eq-eqb (paramsNumber (a .p)) 0 (m .good), eq-eqb (a .m) (dimension (a .p) (a .level)) (c .before .before .if2 .left ∙ e), eq-eqb (a .k) (dimension (a .p) (a .level)) (c .before .if3 .left ∙ e), ne-eqb (a .o) (words (a .p) (a .level)) (λ q. c .if4 .taken (q ∙ sym (ap (λ (n : ℕ). n + 1) e))))
+    simp (eq-eqb (paramsNumber (a .p)) 0 (m .good), eq-eqb (a .m) (dimension (a .p) (a .level)) (c .before .before .if2 .left ∙ e), eq-eqb (a .k) (dimension (a .p) (a .level)) (c .before .if3 .left ∙ e), ne-eqb (a .o) (cipherWords (a .p) (a .level)) (λ q. c .if4 .taken (q ∙ sym (ap (λ (n : ℕ). n + 1) e))))
 
 returns-5 : tie.Need-returns-5
 unfolding encryptLengths
@@ -59,7 +59,7 @@ returns-5 c =
     let d = c .before .before .before .before .dimension-of .ensures in
     let m = some (a .p) (a .level) (λ e. c .before .before .before .if1 .left (d ∙ e)) in
     let e = d ∙ m .masks in
-    simp (eq-eqb (paramsNumber (a .p)) 0 (m .good), eq-eqb (a .m) (dimension (a .p) (a .level)) (c .before .before .if2 .left ∙ e), eq-eqb (a .k) (dimension (a .p) (a .level)) (c .before .if3 .left ∙ e), eq-eqb (a .o) (words (a .p) (a .level)) (c .if4 .left ∙ ap (λ (n : ℕ). n + 1) e))
+    simp (eq-eqb (paramsNumber (a .p)) 0 (m .good), eq-eqb (a .m) (dimension (a .p) (a .level)) (c .before .before .if2 .left ∙ e), eq-eqb (a .k) (dimension (a .p) (a .level)) (c .before .if3 .left ∙ e), eq-eqb (a .o) (cipherWords (a .p) (a .level)) (c .if4 .left ∙ ap (λ (n : ℕ). n + 1) e))
 
 pub encrypt-lengths-spec : {M : Type 1} → statement M
 encrypt-lengths-spec =

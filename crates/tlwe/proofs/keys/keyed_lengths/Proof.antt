@@ -5,7 +5,7 @@ use Prim.Native.Nat.{ℕ, _+_}
 use native.Mathlib.Omega.{arith}
 use borrow.Author.Tests.{eq-eqb, ne-eqb}
 use Rattle.params.specs.Ranges.{paramsNumber}
-use Rattle.tlwe.specs.Level.{dimension, words}
+use Rattle.tlwe.specs.Level.{dimension, cipherWords}
 use Rattle.tlwe.specs.Key.{keyedLengths}
 use Rattle.tlwe.proofs.Checks.{none, some}
 use borrow.Author.Needs.{needs}
@@ -31,7 +31,7 @@ returns-2 c =
     let d = c .before .before .dimension-of .ensures in
     let m = some (a .p) (a .level) (λ e. c .before .if1 .left (d ∙ e)) in
     let e = d ∙ m .masks in
-    simp (eq-eqb (paramsNumber (a .p)) 0 (m .good), ne-eqb (a .c) (words (a .p) (a .level)) (omega arith))
+    simp (eq-eqb (paramsNumber (a .p)) 0 (m .good), ne-eqb (a .c) (cipherWords (a .p) (a .level)) (omega arith))
 
 returns-3 : tie.Need-returns-3
 unfolding keyedLengths
@@ -40,7 +40,7 @@ returns-3 c =
     let d = c .before .before .before .dimension-of .ensures in
     let m = some (a .p) (a .level) (λ e. c .before .before .if1 .left (d ∙ e)) in
     let e = d ∙ m .masks in
-    simp (eq-eqb (paramsNumber (a .p)) 0 (m .good), eq-eqb (a .c) (words (a .p) (a .level)) (omega arith), ne-eqb (a .k) (dimension (a .p) (a .level)) (omega arith))
+    simp (eq-eqb (paramsNumber (a .p)) 0 (m .good), eq-eqb (a .c) (cipherWords (a .p) (a .level)) (omega arith), ne-eqb (a .k) (dimension (a .p) (a .level)) (omega arith))
 
 returns-4 : tie.Need-returns-4
 unfolding keyedLengths
@@ -49,7 +49,7 @@ returns-4 c =
     let d = c .before .before .before .dimension-of .ensures in
     let m = some (a .p) (a .level) (λ e. c .before .before .if1 .left (d ∙ e)) in
     let e = d ∙ m .masks in
-    simp (eq-eqb (paramsNumber (a .p)) 0 (m .good), eq-eqb (a .c) (words (a .p) (a .level)) (omega arith), eq-eqb (a .k) (dimension (a .p) (a .level)) (omega arith))
+    simp (eq-eqb (paramsNumber (a .p)) 0 (m .good), eq-eqb (a .c) (cipherWords (a .p) (a .level)) (omega arith), eq-eqb (a .k) (dimension (a .p) (a .level)) (omega arith))
 
 pub keyed-lengths-spec : {M : Type 1} → statement M
 keyed-lengths-spec =

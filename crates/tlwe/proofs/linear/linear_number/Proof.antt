@@ -5,7 +5,7 @@ use Prim.Native.Nat.{ℕ, _+_}
 use native.Mathlib.Omega.{arith}
 use borrow.Author.Tests.{eq-eqb, ne-eqb}
 use Rattle.params.specs.Ranges.{paramsNumber}
-use Rattle.tlwe.specs.Level.{dimension, words, dimensionOf}
+use Rattle.tlwe.specs.Level.{dimension, cipherWords, dimensionOf}
 use Rattle.tlwe.specs.Linear.{linearNumber}
 use Rattle.tlwe.proofs.Checks.{Masks, none, some}
 use borrow.Author.Needs.{needs}
@@ -31,7 +31,7 @@ returns-2 c =
     let d = c .before .before .dimension-of .ensures in
     let m = some (a .p) (a .level) (λ e. c .before .if1 .left (d ∙ e)) in
     let e = d ∙ m .masks in
-    simp (eq-eqb (paramsNumber (a .p)) 0 (m .good), ne-eqb (a .la) (words (a .p) (a .level)) (λ q. c .if2 .taken (q ∙ sym (ap (λ (n : ℕ). n + 1) e))))
+    simp (eq-eqb (paramsNumber (a .p)) 0 (m .good), ne-eqb (a .la) (cipherWords (a .p) (a .level)) (λ q. c .if2 .taken (q ∙ sym (ap (λ (n : ℕ). n + 1) e))))
 
 returns-3 : tie.Need-returns-3
 unfolding linearNumber
@@ -40,7 +40,7 @@ returns-3 c =
     let d = c .before .before .before .dimension-of .ensures in
     let m = some (a .p) (a .level) (λ e. c .before .before .if1 .left (d ∙ e)) in
     let e = d ∙ m .masks in
-    simp (eq-eqb (paramsNumber (a .p)) 0 (m .good), eq-eqb (a .la) (words (a .p) (a .level)) (c .before .if2 .left ∙ ap (λ (n : ℕ). n + 1) e), ne-eqb (a .lb) (words (a .p) (a .level)) (λ q. c .if3 .taken (q ∙ sym (ap (λ (n : ℕ). n + 1) e))))
+    simp (eq-eqb (paramsNumber (a .p)) 0 (m .good), eq-eqb (a .la) (cipherWords (a .p) (a .level)) (c .before .if2 .left ∙ ap (λ (n : ℕ). n + 1) e), ne-eqb (a .lb) (cipherWords (a .p) (a .level)) (λ q. c .if3 .taken (q ∙ sym (ap (λ (n : ℕ). n + 1) e))))
 
 returns-4 : tie.Need-returns-4
 unfolding linearNumber
@@ -49,7 +49,7 @@ returns-4 c =
     let d = c .before .before .before .before .dimension-of .ensures in
     let m = some (a .p) (a .level) (λ e. c .before .before .before .if1 .left (d ∙ e)) in
     let e = d ∙ m .masks in
-    simp (eq-eqb (paramsNumber (a .p)) 0 (m .good), eq-eqb (a .la) (words (a .p) (a .level)) (c .before .before .if2 .left ∙ ap (λ (n : ℕ). n + 1) e), eq-eqb (a .lb) (words (a .p) (a .level)) (c .before .if3 .left ∙ ap (λ (n : ℕ). n + 1) e), ne-eqb (a .lo) (words (a .p) (a .level)) (λ q. c .if4 .taken (q ∙ sym (ap (λ (n : ℕ). n + 1) e))))
+    simp (eq-eqb (paramsNumber (a .p)) 0 (m .good), eq-eqb (a .la) (cipherWords (a .p) (a .level)) (c .before .before .if2 .left ∙ ap (λ (n : ℕ). n + 1) e), eq-eqb (a .lb) (cipherWords (a .p) (a .level)) (c .before .if3 .left ∙ ap (λ (n : ℕ). n + 1) e), ne-eqb (a .lo) (cipherWords (a .p) (a .level)) (λ q. c .if4 .taken (q ∙ sym (ap (λ (n : ℕ). n + 1) e))))
 
 returns-5 : tie.Need-returns-5
 unfolding linearNumber
@@ -58,7 +58,7 @@ returns-5 c =
     let d = c .before .before .before .before .dimension-of .ensures in
     let m = some (a .p) (a .level) (λ e. c .before .before .before .if1 .left (d ∙ e)) in
     let e = d ∙ m .masks in
-    simp (eq-eqb (paramsNumber (a .p)) 0 (m .good), eq-eqb (a .la) (words (a .p) (a .level)) (c .before .before .if2 .left ∙ ap (λ (n : ℕ). n + 1) e), eq-eqb (a .lb) (words (a .p) (a .level)) (c .before .if3 .left ∙ ap (λ (n : ℕ). n + 1) e), eq-eqb (a .lo) (words (a .p) (a .level)) (c .if4 .left ∙ ap (λ (n : ℕ). n + 1) e))
+    simp (eq-eqb (paramsNumber (a .p)) 0 (m .good), eq-eqb (a .la) (cipherWords (a .p) (a .level)) (c .before .before .if2 .left ∙ ap (λ (n : ℕ). n + 1) e), eq-eqb (a .lb) (cipherWords (a .p) (a .level)) (c .before .if3 .left ∙ ap (λ (n : ℕ). n + 1) e), eq-eqb (a .lo) (cipherWords (a .p) (a .level)) (c .if4 .left ∙ ap (λ (n : ℕ). n + 1) e))
 
 pub linear-number-spec : {M : Type 1} → statement M
 linear-number-spec =

@@ -7,7 +7,7 @@ use lib.ListN.{length}
 use denote.Ref.{now}
 use Rattle.ring.specs.Poly.{plus, scale}
 use Rattle.params.specs.Refusal.{ifDone}
-use Rattle.tlwe.specs.Level.{words}
+use Rattle.tlwe.specs.Level.{cipherWords}
 use Rattle.tlwe.specs.Linear.{linearNumber}
 use Rattle.tlwe.proofs.Sums.{sub-mul-combined}
 use borrow.Author.Needs.{needs}
@@ -19,7 +19,7 @@ returns c =
     let a = c .before .before .before .before .before .before .before .before .args in
     let e = c .before .before .combine .ensures in
     let number = linearNumber (a .p) (a .level) (length (now (a .a))) (length (now (a .b))) (length (now (a .out))) in
-    let m = words (a .p) (a .level) in (
+    let m = cipherWords (a .p) (a .level) in (
       e .0,
       e .1 ∙ ap (λ (y : ℕ). ifDone number (plus m (scale m 1 (now (a .a))) (scale m y (now (a .b)))) (now (a .out))) (c .before .before .before .before .negated .ensures)
           ∙ ap (λ (l : List ℕ). ifDone number l (now (a .out))) (sym (sub-mul-combined m (now (a .a)) (now (a .b)) (a .multiplier))),

@@ -11,12 +11,12 @@ use Rattle.ring.specs.Word.{at}
 use Rattle.ring.specs.Sums.{tab}
 use Rattle.ring.proofs.Tab.{tab-none, tab-more, tab-done}
 use Rattle.tlwe.specs.Plain.{bitWord}
-use Rattle.trlwe.specs.Encrypt.{isTrue}
 use Rattle.trlwe.proofs.loops.bits_into.Statement.{statement}
 use Rattle.trlwe.proofs.loops.bits_into.Tie as tie
+use Rattle.ring.specs.Bit.{truth}
 
 abbrev Inv-loop : tie.InvT-loop
-Inv-loop plain out₀ i₀ out i = (i ≤ length out₀) × (length out ≡ length out₀) × (out ≡ tab i (λ j. bitWord (isTrue (at plain j))) ++ drop i out₀)
+Inv-loop plain out₀ i₀ out i = (i ≤ length out₀) × (length out ≡ length out₀) × (out ≡ tab i (λ j. bitWord (truth (at plain j))) ++ drop i out₀)
 
 abbrev μ-loop : tie.MeasureT-loop
 μ-loop plain out₀ i₀ out i = length out₀ - i

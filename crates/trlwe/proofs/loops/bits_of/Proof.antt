@@ -11,12 +11,12 @@ use Rattle.ring.specs.Word.{Q, at, neg}
 use Rattle.ring.specs.Sums.{tab}
 use Rattle.ring.proofs.Tab.{tab-none, tab-more, tab-done}
 use Rattle.tlwe.specs.Decrypt.{bitOf}
-use Rattle.trlwe.specs.Decrypt.{bitByte}
 use Rattle.trlwe.proofs.loops.bits_of.Statement.{statement}
 use Rattle.trlwe.proofs.loops.bits_of.Tie as tie
+use Rattle.ring.specs.Bit.{bitNumber}
 
 abbrev Inv-loop : tie.InvT-loop
-Inv-loop b az out₀ i₀ out i = (i ≤ length out₀) × (length out ≡ length out₀) × (out ≡ tab i (λ j. bitByte (bitOf ((at b j + neg (at az j)) % Q))) ++ drop i out₀)
+Inv-loop b az out₀ i₀ out i = (i ≤ length out₀) × (length out ≡ length out₀) × (out ≡ tab i (λ j. bitNumber (bitOf ((at b j + neg (at az j)) % Q))) ++ drop i out₀)
 
 abbrev μ-loop : tie.MeasureT-loop
 μ-loop b az out₀ i₀ out i = length out₀ - i
