@@ -14,8 +14,8 @@ use Rattle.params.specs.Ranges.{paramsNumber}
 use Rattle.params.specs.Sizes.{sizesIn, sizesOf}
 use Rattle.params.proofs.Answers.{passed, when-refused}
 use Rattle.params.proofs.Ranges.{sizes-good}
-use Rattle.refusals.specs.Table.{Check, is, atMost, below, holds, passes, numberOf, firstOf, refusalBy}
-use Rattle.refusals.specs.Private.{Fact, Facts, chain}
+use Rattle.refusals.specs.Table.{Check, is, atMost, below, holds, firstOf, refusalBy}
+use Rattle.refusals.specs.Private.{passes, numberOf, Fact, Facts, chain}
 
 -- the numbers of a table are not 0, which computes
 abbrev pub numbered : List Check → Bool
@@ -28,6 +28,13 @@ both false b e = absurd (no e)
   where
     no : false ≡ true → ⊥
     no e = let z : _≡_ {A = ℕ} 0 1 = cc in omega arith
+
+-- one check of a table and those after it
+first-of : (c : Check) (cs : List Check) → firstOf (c ∷ cs) ≡ check (passes c) (numberOf c) (firstOf cs)
+first-of (is x y n) cs = refl
+first-of (atMost x y n) cs = refl
+first-of (below x y n) cs = refl
+first-of (holds b n) cs = refl
 
 -- ---- the code's chain
 
@@ -43,7 +50,9 @@ chain-step false m cs h e = chain-kept m cs (λ z. omega arith)
 -- from 0 it comes to the number of the first check that fails
 chain-first : (cs : List Check) → numbered cs ≡ true → chain 0 cs ≡ firstOf cs
 chain-first [] n = refl
-chain-first (c ∷ cs) n = let m = both _ _ n in chain-step (passes c) (numberOf c) cs (ltb-true _ _ (m .0)) (chain-first cs (m .1))
+chain-first (c ∷ cs) n =
+    let m = both _ _ n in
+    chain-step (passes c) (numberOf c) cs (ltb-true _ _ (m .0)) (chain-first cs (m .1)) ∙ sym (first-of c cs)
 
 -- the lengths of parameters out of range
 abbrev refusedSizes : Sizes
@@ -51,11 +60,11 @@ refusedSizes = record { number = 1; n = 0; size = 0; level0 = 0; level1 = 0; ksk
 
 module _ (p : Params) (checks : Sizes → List Check) (n : numbered (checks (sizesIn p)) ≡ true) where
   -- the routine's own chain, over the lengths that `sizes_of` gives, comes to the routine's number
-  pub chained : {s : Sizes} → s ≡ sizesOf p → chain (s .number) (checks s) ≡ refusalBy p checks
+  pub chained : {s : Sizes} → s ≡ sizesOf p → chain (s .number) (checks s) ≡ refusalBy p (checks (sizesIn p))
   unfolding sizesOf
   chained {s} e = go (eqb (paramsNumber p) 0) refl
     where
-      go : (b : Bool) → eqb (paramsNumber p) 0 ≡ b → chain (s .number) (checks s) ≡ refusalBy p checks
+      go : (b : Bool) → eqb (paramsNumber p) 0 ≡ b → chain (s .number) (checks s) ≡ refusalBy p (checks (sizesIn p))
       go true t = ap (λ (r : Sizes). chain (r .number) (checks r)) (e ∙ sizes-good p (eqb-true _ _ t)) ∙ chain-first (checks (sizesIn p)) n ∙ rw t
       go false t = ap (λ (r : Sizes). chain (r .number) (checks r)) (e ∙ when-refused (paramsNumber p) (sizesIn p) refusedSizes (eqb-false _ _ t)) ∙ chain-kept 1 (checks refusedSizes) (λ z. omega arith) ∙ rw t
 
@@ -77,16 +86,16 @@ facts : (cs : List Check) → numbered cs ≡ true → firstOf cs ≡ 0 → Fact
 facts [] n e = tt
 facts (c ∷ cs) n e =
     let m = both _ _ n in
-    let s = passed (passes c) (numberOf c) (firstOf cs) (ltb-true _ _ (m .0)) e in
+    let s = passed (passes c) (numberOf c) (firstOf cs) (ltb-true _ _ (m .0)) (sym (first-of c cs) ∙ e) in
     (fact c (s .0), facts cs (m .1) (s .1))
 
 none : (cs : List Check) → Facts cs → firstOf cs ≡ 0
 none [] f = refl
-none (c ∷ cs) f = rw (fact-passes c (f .0)) (none cs (f .1))
+none (c ∷ cs) f = first-of c cs ∙ ap (λ (b : Bool). check b (numberOf c) (firstOf cs)) (fact-passes c (f .0)) ∙ none cs (f .1)
 
-module _ (p : Params) (checks : Sizes → List Check) where
-  pub good : numbered (checks (sizesIn p)) ≡ true → refusalBy p checks ≡ 0 → (paramsNumber p ≡ 0) × Facts (checks (sizesIn p))
-  good n e = let s = passed _ 1 (firstOf (checks (sizesIn p))) (omega arith) e in (eqb-true _ _ (s .0), facts (checks (sizesIn p)) n (s .1))
+module _ (p : Params) (checks : List Check) where
+  pub good : numbered checks ≡ true → refusalBy p checks ≡ 0 → (paramsNumber p ≡ 0) × Facts checks
+  good n e = let s = passed _ 1 (firstOf checks) (omega arith) e in (eqb-true _ _ (s .0), facts checks n (s .1))
 
-  pub done : (paramsNumber p ≡ 0) × Facts (checks (sizesIn p)) → refusalBy p checks ≡ 0
-  done f = rw (eq-eqb (paramsNumber p) 0 (f .0)) (none (checks (sizesIn p)) (f .1))
+  pub done : (paramsNumber p ≡ 0) × Facts checks → refusalBy p checks ≡ 0
+  done f = rw (eq-eqb (paramsNumber p) 0 (f .0)) (none checks (f .1))

@@ -3,9 +3,23 @@ use mathlib.Core.Bool.{Bool, true, cond}
 use mathlib.Core.List.{List, [], _∷_}
 use mathlib.Core.Path.{_≡_}
 use Prim.Native.Nat.{ℕ, _≤_, _<_}
-use lib.Dec.{eqb}
+use lib.Dec.{eqb, leb, ltb}
 use Rattle.params.specs.Refusal.{check}
-use Rattle.refusals.specs.Table.{Check, is, atMost, below, holds, passes, numberOf}
+use Rattle.refusals.specs.Table.{Check, is, atMost, below, holds}
+
+-- Does a check pass?
+abbrev pub passes : Check → Bool
+passes (is x y number) = eqb x y
+passes (atMost x y number) = leb x y
+passes (below x y number) = ltb x y
+passes (holds test number) = test
+
+-- Its number.
+abbrev pub numberOf : Check → ℕ
+numberOf (is x y number) = number
+numberOf (atMost x y number) = number
+numberOf (below x y number) = number
+numberOf (holds test number) = number
 
 -- What a check tells once it has passed.
 abbrev pub Fact : Check → Type 0
