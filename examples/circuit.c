@@ -2,6 +2,8 @@
  * prints both. The keys come from the system's random source, at a practice set that gives no secrecy. */
 #include "egl.h"
 
+#include "common.h"
+
 #include <stdio.h>
 #include <stdlib.h>
 
@@ -19,37 +21,13 @@ static const uint8_t adder[] = {
     4, 0, 5, 0,
 };
 
-static FILE *source;
-
 static uint32_t key0[n], key1[N], ksk[ksk_len], bsk[bsk_len];
 static uint32_t masks[drawing * n > bsk_masks ? drawing * n : bsk_masks], noise[drawing > bsk_masks ? drawing : bsk_masks];
 static uint32_t ins[inputs * ciphertext], wires[(inputs + gates) * ciphertext], outs[outputs * ciphertext];
 
-static void draw(uint32_t *to, size_t count) {
-    if (fread(to, 4, count, source) != count) exit(3);
-}
-
-/* From -8 to 7 units of 2^-32: enough for a practice set, and no more than that. */
-static void draw_noise(uint32_t *to, size_t count) {
-    draw(to, count);
-    for (size_t i = 0; i < count; i++) to[i] = (to[i] & 15) - 8;
-}
-
-static egl_answer done(const char *what, egl_answer a) {
-    if (EGL_NUMBER(a) != 0) {
-        printf("%s: refused %u at %u\n", what, EGL_NUMBER(a), EGL_PLACE(a));
-        exit(1);
-    }
-    return a;
-}
-
 int main(void) {
-    source = fopen("/dev/urandom", "rb");
-    if (!source) return 3;
-    draw(key0, n);
-    draw(key1, N);
-    for (size_t i = 0; i < n; i++) key0[i] &= 1;
-    for (size_t i = 0; i < N; i++) key1[i] &= 1;
+    draw_key(key0, n);
+    draw_key(key1, N);
     draw(masks, (size_t)drawing * n);
     draw_noise(noise, drawing);
     done("switching key", egl_key_gen_key_switching_key(P, key0, n, key1, N, masks, (size_t)drawing * n, noise, drawing, ksk, ksk_len));

@@ -6,6 +6,8 @@
  * A product draws its masks and noise from a generator fit for the purpose. */
 #include "egl.h"
 
+#include "common.h"
+
 #include <stdio.h>
 #include <stdlib.h>
 #include <string.h>
@@ -15,12 +17,6 @@ struct set { uint32_t n, nbit, bgbit, l, basebit, t, wide0, wide1; };
 static struct set set = {20, 7, 7, 3, 3, 5, 3, 3};
 
 #define P set.n, set.nbit, set.bgbit, set.l, set.basebit, set.t
-
-static FILE *source;
-
-static void draw(uint32_t *to, size_t count) {
-    if (fread(to, 4, count, source) != count) exit(3);
-}
 
 /* a word of noise: a sum of 20 uniform numbers, its spread about 2.6 times 2^wide units of 2^-32 */
 static uint32_t noise(uint32_t wide) {
@@ -34,13 +30,6 @@ static uint32_t *words(size_t count) {
     uint32_t *w = malloc(count * 4);
     if (!w) exit(3);
     return w;
-}
-
-static void done(const char *what, egl_answer a) {
-    if (EGL_NUMBER(a) != 0) {
-        printf("%s: refused %u at %u\n", what, EGL_NUMBER(a), EGL_PLACE(a));
-        exit(1);
-    }
 }
 
 typedef egl_answer two_inputs(EGL_PARAMS, const uint32_t *, size_t, const uint32_t *, size_t, const uint32_t *, size_t, const uint32_t *, size_t, uint32_t *, size_t);
@@ -73,17 +62,13 @@ static void show(const char *name, egl_answer answer, const uint32_t *out, unsig
 
 int main(int count, char **args) {
     if (count > 1 && strcmp(args[1], "128") == 0) set = (struct set){700, 10, 6, 3, 2, 9, 15, 5};
-    source = fopen("/dev/urandom", "rb");
-    if (!source) return 3;
     const size_t n = set.n, N = (size_t)1 << set.nbit, base = (size_t)1 << set.basebit;
     const size_t drawing = N * set.t * (base - 1), ksk_len = N * set.t * base * (n + 1), bsk_masks = n * 2 * set.l * N, bsk_len = 2 * bsk_masks;
     uint32_t *key1 = words(N), *ksk = words(ksk_len), *bsk = words(bsk_len);
     uint32_t *masks = words(drawing * n > bsk_masks ? drawing * n : bsk_masks), *errors = words(drawing > bsk_masks ? drawing : bsk_masks);
     key0 = words(n);
-    draw(key0, n);
-    draw(key1, N);
-    for (size_t i = 0; i < n; i++) key0[i] &= 1;
-    for (size_t i = 0; i < N; i++) key1[i] &= 1;
+    draw_key(key0, n);
+    draw_key(key1, N);
     draw(masks, drawing * n);
     for (size_t i = 0; i < drawing; i++) errors[i] = noise(set.wide0);
     done("switching key", egl_key_gen_key_switching_key(P, key0, n, key1, N, masks, drawing * n, errors, drawing, ksk, ksk_len));

@@ -7,6 +7,8 @@
  * The keys come from the system's random source, at a practice set that gives no secrecy. */
 #include "egl.h"
 
+#include "common.h"
+
 #include <stdio.h>
 #include <stdlib.h>
 #include <string.h>
@@ -14,7 +16,6 @@
 #define P 20, 7, 7, 3, 3, 5
 enum { n = 20, N = 128 };
 
-static FILE *source;
 static uint32_t key0[n], key1[N];
 static uint32_t *ksk, *bsk;
 
@@ -25,29 +26,9 @@ static void *room(size_t count, size_t size) {
     return p;
 }
 
-static void draw(uint32_t *to, size_t count) {
-    if (fread(to, 4, count, source) != count) exit(3);
-}
-
-/* From -8 to 7 units of 2^-32: enough for a practice set, and no more than that. */
-static void draw_noise(uint32_t *to, size_t count) {
-    draw(to, count);
-    for (size_t i = 0; i < count; i++) to[i] = (to[i] & 15) - 8;
-}
-
-static egl_answer done(const char *what, egl_answer a) {
-    if (EGL_NUMBER(a) != 0) {
-        printf("%s: refused %u at %u\n", what, EGL_NUMBER(a), EGL_PLACE(a));
-        exit(1);
-    }
-    return a;
-}
-
 static void draw_keys(void) {
-    draw(key0, n);
-    draw(key1, N);
-    for (size_t i = 0; i < n; i++) key0[i] &= 1;
-    for (size_t i = 0; i < N; i++) key1[i] &= 1;
+    draw_key(key0, n);
+    draw_key(key1, N);
     ksk = room(EGL_SWITCHING_WORDS(P), sizeof *ksk);
     bsk = room(EGL_BOOTSTRAPPING_WORDS(P), sizeof *bsk);
     uint32_t *masks = room(EGL_SWITCHING_MASKS(P), sizeof *masks), *noise = room(EGL_SWITCHING_NOISE(P), sizeof *noise);
@@ -160,8 +141,6 @@ int main(int argc, char **argv) {
         printf("the archive has version %u of the interface, the header %u\n", egl_version(), EGL_VERSION);
         return 1;
     }
-    source = fopen("/dev/urandom", "rb");
-    if (!source) return 3;
     draw_keys();
     if (argc > 1) return run_file(argv[1], 0) != 0;
     FILE *file = tmpfile();

@@ -2,8 +2,8 @@
 
 use crate::case::{Arg, Kind, Routine, Slot};
 use crate::circuits::{self, Circuit};
+use crate::sizes::{in_range, Sizes};
 use crate::source::Source;
-use crate::table::{self, Sizes};
 
 fn filled(source: &mut Source, kind: Kind, len: usize) -> Arg {
     match kind {
@@ -107,7 +107,7 @@ pub fn faulty(source: &mut Source, r: &Routine) -> ([u32; 6], Vec<Arg>) {
                 w[at] = source.of(&[2, 3, u32::MAX, 1 << 31]);
             }
             (Slot::Index(bits, most), Arg::Num(x)) => {
-                let most = if table::in_range(&p) { most(&Sizes::of(&p)) as u64 } else { 4 };
+                let most = if in_range(&p) { most(&Sizes::of(&p)) as u64 } else { 4 };
                 *x = source.of(&[most + 1, most + 2, 2 * most + 7, u32::MAX as u64, u64::MAX >> (64 - bits)]);
             }
             (Slot::Modulus, Arg::Num(m)) => *m = source.of(&[0, 1, 3, 6, 63, 65, 128, 1 << 32, (1 << 32) + 2, 1 << 63, u64::MAX]),

@@ -2,7 +2,7 @@
 //! independently of the library: what the external product, the blind rotation and the
 //! gates must give word for word.
 
-use crate::table::Sizes;
+use crate::sizes::Sizes;
 
 pub type Pair = (Vec<u32>, Vec<u32>);
 

@@ -2,7 +2,7 @@
 //! word for word, with the original or without it.
 
 use crate::exact::{self, Pair};
-use crate::table::Sizes;
+use crate::sizes::Sizes;
 
 /// What must be: our words, and where the original is at hand, its own are these too.
 pub fn agreed<T: PartialEq>(theirs: Option<T>, ours: T) -> T {

@@ -2,8 +2,8 @@
 //! random masks, small noise. What they encrypt is known, so results can be decrypted.
 
 use crate::exact;
+use crate::sizes::Sizes;
 use crate::source::Source;
-use crate::table::Sizes;
 
 /// Standard deviations in words: of ciphertexts and the switching key, and of the bootstrapping key.
 #[derive(Clone, Copy)]

@@ -6,6 +6,7 @@
 mod bridge;
 mod case;
 mod circuits;
+mod compare;
 mod draw;
 mod exact;
 mod exact_run;
@@ -15,6 +16,7 @@ mod groups;
 mod honest;
 mod reckoned_run;
 mod reckoning;
+mod sizes;
 mod source;
 mod table;
 
@@ -23,7 +25,8 @@ mod list {
     include!(env!("ORACLE_SETS"));
 }
 
-use case::{Set, Tally};
+use case::Set;
+use compare::Tally;
 use groups::{Group, Run};
 use std::collections::BTreeSet;
 use std::sync::atomic::{AtomicUsize, Ordering};
@@ -127,7 +130,7 @@ fn sample(groups: &[Group], sets: &[Set], group: &str, count: usize) {
         let mut tally = Tally { list: Some(Vec::new()), ..Tally::default() };
         let mut source = source::Source::new(SEED, &format!("sample {}", r.name));
         // programs that replay a list use small sets
-        let fit: Vec<&Set> = sets.iter().filter(|s| s.p[0] <= 64 && s.p[1] <= 6 && (r.cost)(&table::Sizes::of(&s.p)) < 10_000_000).collect();
+        let fit: Vec<&Set> = sets.iter().filter(|s| s.p[0] <= 64 && s.p[1] <= 6 && (r.cost)(&sizes::Sizes::of(&s.p)) < 10_000_000).collect();
         for i in 0..count {
             let Some(set) = fit.get(i % fit.len().max(1)) else { break };
             let (p, args) = if i % 4 == 3 { draw::faulty(&mut source, r) } else { (set.p, draw::good(&mut source, r, &set.p)) };

@@ -3,7 +3,7 @@
 //! `exact`.
 
 use crate::exact::{self, Pair};
-use crate::table::Sizes;
+use crate::sizes::Sizes;
 use std::cell::Cell;
 
 pub type Whole = i128;

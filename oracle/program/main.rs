@@ -1,5 +1,6 @@
 //! Runs the program `egl` and holds what it prints against a text made here, by the harness's own reader and evaluator of circuits.
-//!   program RUNS COMMAND..   RUNS random circuits beside the chosen ones; the command runs the program
+//!   program RUNS COMMAND.. [@]   RUNS random circuits beside the chosen ones; the command runs the program, which is lent the bytes on standard input, in
+//!                                one piece and in parts, or in a file whose name stands in the place of @
 //! The chosen ones are where its buffers end: the longest circuit, bytes behind it, no byte at all, the longest text.
 
 #[allow(dead_code)]
@@ -37,7 +38,15 @@ fn text(bytes: &[u8]) -> String {
     }
 }
 
-/// What the program prints when the bytes come in parts of so many; nothing where it fails.
+/// What the program prints when the bytes are a file's; nothing where it fails.
+fn printed_of_file(command: &[String], bytes: &[u8]) -> Option<String> {
+    let file = std::env::current_exe().ok()?.with_extension("bytes");
+    std::fs::write(&file, bytes).ok()?;
+    let out = Command::new(command.first()?).args(&command[1..]).arg(file).stdin(Stdio::null()).output().ok()?;
+    out.status.success().then(|| String::from_utf8_lossy(&out.stdout).into_owned())
+}
+
+/// The same when they come on standard input, in parts of so many.
 fn printed(command: &[String], bytes: &[u8], part: usize) -> Option<String> {
     let mut child = Command::new(&command[0]).args(&command[1..]).stdin(Stdio::piped()).stdout(Stdio::piped()).spawn().ok()?;
     let mut to = child.stdin.take()?;
@@ -118,8 +127,12 @@ fn main() {
     }
     let mut differences = 0;
     for (what, bytes) in &cases {
-        for part in [bytes.len().max(1), 4096 - 1] {
-            let (got, want) = (printed(command, bytes, part), text(bytes));
+        let ways = match command.split_last() {
+            Some((at, command)) if at == "@" => vec![printed_of_file(command, bytes)],
+            _ => [bytes.len().max(1), 4096 - 1].map(|part| printed(command, bytes, part)).into(),
+        };
+        let want = text(bytes);
+        for got in ways {
             if got.as_ref() == Some(&want) {
                 continue;
             }

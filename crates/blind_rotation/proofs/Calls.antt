@@ -11,12 +11,13 @@ use Rattle.params.specs.declared.Params.{Params}
 use Rattle.params.specs.Sizes.{size}
 use Rattle.params.proofs.Answers.{when-done}
 use Rattle.ring.proofs.Tab.{length-tab}
-use Rattle.product.proofs.Uses.{length-plus}
+use Rattle.ring.proofs.Places.{length-plus}
 use Rattle.trgsw.specs.External.{cmuxOf}
-use Rattle.blind_rotation.specs.Blind.{turned, blindStep, stepsTo, startOf, blindRotated, testPair}
+use Rattle.blind_rotation.specs.Blind.{turned, blindStep, stepsTo, startOf, blindRotated}
 use Rattle.blind_rotation.specs.Refusals.{stepNumber, stepOut, blindNumber, blindOut}
 use Rattle.blind_rotation.proofs.Checks.{step-done, blind-good}
 use Rattle.ring.specs.Pair.{Pair}
+use Rattle.key.specs.Testvec.{testPair}
 
 -- the accumulator after calls of `blind_rotate_step` for the steps 0 .. k - 1, each lent its mask of the ciphertext src; it held x before them
 unfoldable pub called : Params → List ℕ → List ℕ → Pair → ℕ → Pair

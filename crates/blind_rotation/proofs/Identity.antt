@@ -5,18 +5,19 @@ use mathlib.Core.Path.{_≡_, refl, sym, ap, ap₂, _∙_}
 use mathlib.Core.Bool.{Bool, true, false, cond}
 use mathlib.Core.List.{List, [], _∷_}
 use Prim.Native.Nat.{ℕ, zero, suc, _+_, _*_, _-_, _%_, _≤_, _<_}
-use native.Mathlib.Nat.{mod-lt, mod-eq-of-lt, le-of-lt}
+use native.Mathlib.Nat.{mod-lt, mod-eq-of-lt, mod-self, add-mod-right, le-of-lt}
 use native.Mathlib.Omega.{arith}
-use native.Mathlib.Decide.{ℕ-discrete}
-use lib.Dec.{eqb}
+use native.Mathlib.Decide.{ℕ-discrete, decLt}
+use lib.Dec.{eqb, ltb}
 use borrow.Author.Tests.{eq-eqb, ne-eqb}
-use Rattle.ring.specs.Word.{at}
+use Rattle.ring.specs.Word.{Q, at, neg}
 use Rattle.ring.specs.Poly.{plus, minus}
-use Rattle.ring.specs.Turn.{negating}
+use Rattle.ring.specs.Turn.{source, negating}
+use Rattle.ring.proofs.Tab.{tab-ext}
 use Rattle.ring.specs.Phase.{phase}
 use Rattle.ring.proofs.Value.{Reduced, Proper, proper-reduced, by-value, value, value-plus, value-minus, 𝓟}
 use Rattle.ring.proofs.Solve.{#, _:+_, _:-_, solve}
-use Rattle.ring.proofs.Laws.{plus-proper, minus-proper, phase-proper, negating-proper, phase-rotated}
+use Rattle.ring.proofs.Laws.{plus-proper, minus-proper, phase-proper, phase-rotated, negating-negating, negating-plus}
 use Rattle.params.specs.declared.Params.{Params}
 use Rattle.params.specs.Ranges.{InRange}
 use Rattle.params.specs.Sizes.{size}
@@ -25,9 +26,8 @@ use Rattle.rotation.specs.Amount.{maskAmount, bodyAmount}
 use Rattle.rotation.proofs.Amounts.{mask-below, body-to}
 use Rattle.trgsw.specs.Errors.{digitErrors, lowPoly}
 use Rattle.blind_rotation.specs.Blind.{turned, bitRows, blindStep, stepsTo, startOf, blindRotated}
-use Rattle.blind_rotation.specs.Drift.{complementDrift, stepMoved, driftStep, driftTo, turnTo}
+use Rattle.blind_rotation.specs.Drift.{complementWords, stepMoved, driftStep, driftTo, turnTo}
 use Rattle.blind_rotation.proofs.Phase.{step-phase-zero, step-phase-one}
-use Rattle.blind_rotation.proofs.Turn.{negating-negating, negating-mod, negating-plus}
 use Rattle.ring.specs.Pair.{Pair}
 
 -- ---- regrouping
@@ -43,6 +43,21 @@ module _ (N : ℕ) (h : 0 < N) (t e err : List ℕ) where
   turns w l = by-value N h (plus-proper N h _ _) (plus-proper N h _ _) (simp (value-plus N h, value-minus N h)
       (solve (𝓟 N h) (value N h t ∷ value N h e ∷ value N h err ∷ value N h w ∷ value N h l ∷ [])
       (# 0 :+ # 1 :+ # 3 :- # 4 :+ # 2) (# 0 :+ (# 1 :+ # 3 :- # 4 :+ # 2)) refl))
+
+-- the amount counts modulo 2N
+pub negating-mod : (N : ℕ) (a : List ℕ) (k : ℕ) → k ≤ N + N → negating N (k % (N + N)) a ≡ negating N k a
+unfolding negating source
+negating-mod N a k lk = go (decLt k (N + N))
+  where
+    go : Dec (k < N + N) → negating N (k % (N + N)) a ≡ negating N k a
+    go (yes u) = ap (λ (x : ℕ). negating N x a) (mod-eq-of-lt u)
+    go (no n) =
+        let e : k ≡ N + N = omega arith in
+        let z : k % (N + N) ≡ 0 = ap (λ (x : ℕ). x % (N + N)) e ∙ mod-self (N + N) in
+        tab-ext N _ _ (λ i l. ap (λ (s : ℕ). cond (ltb s N) (at a s) (neg (at a (s - N)) % Q))
+        (ap (λ (x : ℕ). (i + (N + N) - x) % (N + N)) z
+        ∙ ap (λ (x : ℕ). x % (N + N)) (let q : i + (N + N) - 0 ≡ i + (N + N) = omega arith in q) ∙ add-mod-right i (N + N)
+        ∙ sym (ap (λ (x : ℕ). (i + (N + N) - x) % (N + N)) e ∙ ap (λ (x : ℕ). x % (N + N)) (let q : i + (N + N) - (N + N) ≡ i = omega arith in q))))
 
 -- one of two
 either : (N : ℕ) (h : 0 < N) (c : Bool) {a b : List ℕ} → Proper N h a → Proper N h b → Proper N h (cond c a b)
@@ -74,7 +89,7 @@ module _ (p : Params) (r : InRange p) (s z key src : List ℕ) (v : Pair) where
 
   -- every drift has N words below Q
   drift-proper : (k : ℕ) → Proper N h (driftTo p s z key src v k)
-  unfolding driftTo driftStep complementDrift
+  unfolding driftTo driftStep complementWords
   drift-proper zero = minus-proper N h _ _
   drift-proper (suc k) = either N h (eqb (at s k) 0) (plus-proper N h _ _) (plus-proper N h _ _)
 
@@ -102,15 +117,15 @@ module _ (p : Params) (r : InRange p) (s z key src : List ℕ) (v : Pair) where
     turned-on : negating N j (plus N (negating N (turnTo p s src k) began) D) ≡ plus N (negating N ((j + turnTo p s src k) % (N + N)) began) (negating N j D)
     turned-on =
         let lj : j ≤ N + N = le-of-lt (mask-below p r (at src k)) in
-        negating-plus N h j (negating N (turnTo p s src k) began) D lj (proper-reduced N h (negating-proper N h (turnTo p s src k) began reduced-began)) (proper-reduced N h (drift-proper k))
-        ∙ ap (λ (u : List ℕ). plus N u (negating N j D)) (negating-negating N h began reduced-began j (turnTo p s src k) lj (le-of-lt (turn-below k)))
+        negating-plus N h j (negating N (turnTo p s src k) began) D lj
+        ∙ ap (λ (u : List ℕ). plus N u (negating N j D)) (negating-negating N h j (turnTo p s src k) began reduced-began lj (le-of-lt (turn-below k)))
 
-    onward-one : next ≡ plus N (negating N ((j + turnTo p s src k) % (N + N)) began) (plus N (minus N (plus N (negating N j D) (complementDrift p z j)) low) (errs 1))
-    unfolding complementDrift
+    onward-one : next ≡ plus N (negating N ((j + turnTo p s src k) % (N + N)) began) (plus N (minus N (plus N (negating N j D) (complementWords p z j)) low) (errs 1))
+    unfolding complementWords
     onward-one =
         step-phase-one p r z key k (at src k) (acc k)
-        ∙ ap (λ (u : List ℕ). plus N (minus N (plus N u (complementDrift p z j)) low) (errs 1)) (ap (negating N j) e ∙ turned-on)
-        ∙ turns N h (negating N ((j + turnTo p s src k) % (N + N)) began) (negating N j D) (errs 1) (complementDrift p z j) low
+        ∙ ap (λ (u : List ℕ). plus N (minus N (plus N u (complementWords p z j)) low) (errs 1)) (ap (negating N j) e ∙ turned-on)
+        ∙ turns N h (negating N ((j + turnTo p s src k) % (N + N)) began) (negating N j D) (errs 1) (complementWords p z j) low
 
     -- a step that goes on from the identity
     onward : at s k ≤ 1 → next ≡ plus N (negating N ((turnTo p s src k + at s k * j) % (N + N)) began) (driftStep p z key k (at s k) (at src k) (acc k) D)
@@ -121,7 +136,7 @@ module _ (p : Params) (r : InRange p) (s z key src : List ℕ) (v : Pair) where
         stay = plus N D (errs 0)
 
         turn : List ℕ
-        turn = plus N (minus N (plus N (negating N j D) (complementDrift p z j)) low) (errs 1)
+        turn = plus N (minus N (plus N (negating N j D) (complementWords p z j)) low) (errs 1)
 
         go : Dec (at s k ≡ 0) → next ≡ plus N (negating N ((turnTo p s src k + at s k * j) % (N + N)) began) (cond (eqb (at s k) 0) stay turn)
         go (yes q) =
@@ -137,10 +152,10 @@ module _ (p : Params) (r : InRange p) (s z key src : List ℕ) (v : Pair) where
   -- after k steps, k at most n, of a binary key s
   pub identity : ((i : ℕ) → at s i ≤ 1) → (k : ℕ)
       → phase N z (acc k .a) (acc k .b) ≡ plus N (negating N (turnTo p s src k) began) (driftTo p s z key src v k)
-  unfolding stepsTo startOf turned turnTo driftTo complementDrift
+  unfolding stepsTo startOf turned turnTo driftTo complementWords
   identity bits zero =
       phase-rotated N h (bodyAmount p (at src (p .n))) z (v .a) (v .b) (body-to p r (at src (p .n)))
-      ∙ ap (λ (u : List ℕ). plus N u (complementDrift p z (bodyAmount p (at src (p .n))))) (sym (negating-mod N h began reduced-began (bodyAmount p (at src (p .n))) (body-to p r (at src (p .n)))))
+      ∙ ap (λ (u : List ℕ). plus N u (complementWords p z (bodyAmount p (at src (p .n))))) (sym (negating-mod N began (bodyAmount p (at src (p .n))) (body-to p r (at src (p .n)))))
   identity bits (suc k) = onward k (identity bits k) (bits k)
 
   -- after the whole rotation

@@ -3,7 +3,6 @@ pub mod Steps
 pub mod Calls
 pub mod Examples
 pub mod Phase
-pub mod Turn
 pub mod Identity
 pub mod Start
 pub mod Determined

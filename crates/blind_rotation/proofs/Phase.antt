@@ -2,15 +2,14 @@
 -- Assumes nothing.
 use mathlib.Core.Path.{_≡_, ap, ap₂, _∙_}
 use mathlib.Core.List.{List}
-use Prim.Native.Nat.{ℕ, _+_, _%_, _≤_, _<_}
-use native.Mathlib.Nat.{add-comm, le-of-lt}
+use Prim.Native.Nat.{ℕ, _+_, _≤_, _<_}
+use native.Mathlib.Nat.{le-of-lt}
 use Rattle.ring.specs.Word.{Q, at}
 use Rattle.ring.specs.Poly.{plus, minus, times, scale}
 use Rattle.ring.specs.Turn.{rotated, negating, complemented}
 use Rattle.ring.specs.Phase.{phase}
-use Rattle.ring.proofs.Tab.{tab-ext}
 use Rattle.ring.proofs.Value.{below, proper-reduced}
-use Rattle.ring.proofs.Laws.{phase-step, phase-rotated, step-zero, step-one, minus-proper}
+use Rattle.ring.proofs.Laws.{phase-step, phase-rotated, step-zero, step-one, plus-comm, minus-proper}
 use Rattle.params.specs.declared.Params.{Params}
 use Rattle.params.specs.Ranges.{InRange}
 use Rattle.params.specs.Sizes.{size}
@@ -23,10 +22,6 @@ use Rattle.trgsw.proofs.Phase.{external-phase, cleared-less}
 use Rattle.blind_rotation.specs.Blind.{turned, bitRows, blindStep}
 use Rattle.blind_rotation.specs.Drift.{stepMoved}
 use Rattle.ring.specs.Pair.{Pair, pairMinus}
-
-pub plus-comm : (N : ℕ) (a b : List ℕ) → plus N a b ≡ plus N b a
-unfolding plus
-plus-comm N a b = tab-ext N _ _ (λ i l. ap (λ (x : ℕ). x % Q) (add-comm (at a i) (at b i)))
 
 module _ (p : Params) (r : InRange p) (z rows : List ℕ) (k : ℕ) (lk : k ≤ size p + size p) (x : Pair) where
   abbrev N : ℕ
@@ -46,7 +41,7 @@ module _ (p : Params) (r : InRange p) (z rows : List ℕ) (k : ℕ) (lk : k ≤ 
       (phase N z (lowPoly p (moved .a)) (lowPoly p (moved .b)))))) (digitErrors p z rows m moved)
   unfolding cmuxOf turned
   choice-phase m =
-      ap₂ (phase N z) (plus-comm N (external p rows moved .a) (x .a)) (plus-comm N (external p rows moved .b) (x .b))
+      ap₂ (phase N z) (plus-comm N (size-from p) (external p rows moved .a) (x .a)) (plus-comm N (size-from p) (external p rows moved .b) (x .b))
       ∙ phase-step N (size-from p) k m z (x .a) (x .b) (lowPoly p (moved .a)) (lowPoly p (moved .b)) (external p rows moved .a) (external p rows moved .b) (digitErrors p z rows m moved)
       (external-phase p r z rows m moved (moved-below _ _) (moved-below _ _)
       ∙ ap₂ (λ (u v : List ℕ). plus N (scale N m (phase N z u v)) (digitErrors p z rows m moved))

@@ -3,10 +3,10 @@
 -- Assumes nothing.
 use mathlib.Core.Path.{_≡_, sym, ap, _∙_}
 use mathlib.Core.List.{List}
-use Prim.Native.Nat.{ℕ, zero, suc, _+_, _*_, _%_, _^_}
+use Prim.Native.Nat.{ℕ, zero, suc, _+_, _*_, _%_}
 use native.Mathlib.Nat.{mod-add-mod, zero-mul}
 use native.Mathlib.Omega.{arith}
-use Rattle.ring.specs.Word.{Q, neg, at}
+use Rattle.ring.specs.Word.{Q, neg, at, eighth}
 use Rattle.ring.specs.Sums.{sumTo, tab}
 use Rattle.ring.specs.Poly.{before, minus, times}
 use Rattle.ring.specs.Phase.{phase}
@@ -14,9 +14,8 @@ use Rattle.ring.proofs.Tab.{at-tab, tab-ext}
 use Rattle.ring.proofs.SumLaws.{sum-ext, sum-zero}
 use Rattle.params.specs.declared.Params.{Params}
 use Rattle.params.specs.Sizes.{size}
-use Rattle.key.specs.Testvec.{testB}
+use Rattle.key.specs.Testvec.{testPair}
 use Rattle.rotation.specs.Amount.{maskAmount, bodyAmount}
-use Rattle.blind_rotation.specs.Blind.{testPair}
 use Rattle.blind_rotation.specs.Drift.{turnTo}
 
 -- nothing times z
@@ -25,10 +24,10 @@ unfolding times Q
 zero-times N z = tab-ext N _ _ (λ k l.
     ap (λ (n : ℕ). n % Q) (sum-ext N _ (λ i. 0) (λ i li. ap (λ (n : ℕ). n * before N z k i) (at-tab N (λ i. 0) i li) ∙ zero-mul (before N z k i)) ∙ sum-zero N))
 
-pub test-phase : (p : Params) (z : List ℕ) → phase (size p) z (testPair p .a) (testPair p .b) ≡ testB p
+pub test-phase : (p : Params) (z : List ℕ) → phase (size p) z (testPair p .a) (testPair p .b) ≡ testPair p .b
 unfolding phase minus neg Q
 test-phase p z = tab-ext (size p) _ _ (λ i l.
-    let e = at-tab (size p) (λ i. 2 ^ 29) i l in
+    let e = at-tab (size p) (λ i. eighth) i l in
     let f : at (times (size p) (tab (size p) (λ i. 0)) z) i ≡ 0 = ap (λ (t : List ℕ). at t i) (zero-times (size p) z) ∙ at-tab (size p) (λ i. 0) i l in
     omega arith)
 

@@ -13,17 +13,17 @@ use Rattle.params.specs.Refusal.{ifDone}
 use Rattle.params.specs.Ranges.{paramsNumber}
 use Rattle.params.specs.Sizes.{size, bitWords, bootstrappingWords}
 use Rattle.params.proofs.Answers.{when-done}
-use Rattle.key.specs.Testvec.{testNumber, testA, testB}
+use Rattle.key.specs.Testvec.{testNumber, testPair}
 use Rattle.key.specs.Bits.{bitRowsNumber}
 use Rattle.key.proofs.Checks.{test-done, bit-done}
-use Rattle.product.proofs.Uses.{length-minus}
+use Rattle.ring.proofs.Places.{length-minus}
 use Rattle.rotation.specs.declared.Rounded.{Rounded}
 use Rattle.rotation.specs.Amount.{maskAmount, bodyAmount, roundedTo}
 use Rattle.rotation.proofs.Amounts.{rounded-done}
 use Rattle.trgsw.specs.External.{external, cmuxOf}
 use Rattle.trgsw.specs.Refusals.{externalNumber, externalAddOut}
 use Rattle.trgsw.proofs.Checks.{external-done}
-use Rattle.blind_rotation.specs.Blind.{turned, bitRows, blindStep, stepsTo, startOf, testPair}
+use Rattle.blind_rotation.specs.Blind.{turned, bitRows, blindStep, stepsTo, startOf}
 use Rattle.ring.specs.Pair.{Pair, pairPlus, pairMinus}
 
 -- two polynomials as a pair
@@ -74,7 +74,7 @@ module _ (p : Params) where
 
   -- the gates' vector, worked out
   pub test-put : paramsNumber p ≡ 0 → (a b : List ℕ) → length a ≡ size p → length b ≡ size p → {ta tb : List ℕ}
-      → ta ≡ ifDone (testNumber p (length a) (length b)) (testA p) a → tb ≡ ifDone (testNumber p (length a) (length b)) (testB p) b → pair ta tb ≡ testPair p
+      → ta ≡ ifDone (testNumber p (length a) (length b)) (testPair p .a) a → tb ≡ ifDone (testNumber p (length a) (length b)) (testPair p .b) b → pair ta tb ≡ testPair p
   test-put z a b la lb ea eb =
       let n : testNumber p (length a) (length b) ≡ 0 = ap₂ (testNumber p) la lb ∙ test-done p z in
       ap₂ pair (ea ∙ when-done _ _ _ n) (eb ∙ when-done _ _ _ n)

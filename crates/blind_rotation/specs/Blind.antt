@@ -5,7 +5,7 @@ use Rattle.ring.specs.Word.{at}
 use Rattle.ring.specs.Turn.{rotated}
 use Rattle.params.specs.declared.Params.{Params}
 use Rattle.params.specs.Sizes.{size}
-use Rattle.key.specs.Testvec.{testA, testB}
+use Rattle.key.specs.Testvec.{testPair}
 unfoldable pub use Rattle.key.specs.Bits.{bitRows}
 use Rattle.rotation.specs.Amount.{maskAmount, bodyAmount}
 use Rattle.trgsw.specs.External.{cmuxOf}
@@ -31,7 +31,3 @@ startOf p v b = turned p (bodyAmount p b) v
 -- The rotation of v by the ciphertext src of n masks and b: all n steps.
 unfoldable pub blindRotated : Params → List ℕ → List ℕ → Pair → Pair
 blindRotated p key src v = stepsTo p key src (startOf p v (at src (p .n))) (p .n)
-
--- What the gates rotate: a zero, b an eighth of a turn in every word (01, key, `gen_testvec`). It is worked out and never lent.
-abbrev pub testPair : Params → Pair
-testPair p = record { a = testA p; b = testB p }

@@ -15,8 +15,8 @@ use Rattle.blind_rotation.specs.Blind.{turned, bitRows, stepsTo, startOf
 use Rattle.ring.specs.Pair.{Pair, pairMinus}
 
 -- W(k)·z - W(k): what complementing adds to the phase of a pair turned by k.
-unfoldable pub complementDrift : Params → List ℕ → ℕ → List ℕ
-complementDrift p z k = minus (size p) (times (size p) (complemented (size p) k) z) (complemented (size p) k)
+unfoldable pub complementWords : Params → List ℕ → ℕ → List ℕ
+complementWords p z k = minus (size p) (times (size p) (complemented (size p) k) z) (complemented (size p) k)
 
 -- in2 - in1 of a step by the mask, whose accumulator is x: x turned, less x.
 abbrev pub stepMoved : Params → ℕ → Pair → Pair
@@ -28,13 +28,13 @@ unfoldable pub driftStep : Params → List ℕ → List ℕ → ℕ → ℕ → 
 driftStep p z key i bit mask x e =
     cond (eqb bit 0)
     (plus (size p) e (digitErrors p z (bitRows p key i) 0 (stepMoved p mask x)))
-    (plus (size p) (minus (size p) (plus (size p) (negating (size p) (maskAmount p mask) e) (complementDrift p z (maskAmount p mask)))
+    (plus (size p) (minus (size p) (plus (size p) (negating (size p) (maskAmount p mask) e) (complementWords p z (maskAmount p mask)))
     (phase (size p) z (lowPoly p (stepMoved p mask x .a)) (lowPoly p (stepMoved p mask x .b))))
     (digitErrors p z (bitRows p key i) 1 (stepMoved p mask x)))
 
 -- The drift after the first k steps of the rotation of v by the ciphertext src: W·z - W for b's amount at first.
 unfoldable pub driftTo : Params → List ℕ → List ℕ → List ℕ → List ℕ → Pair → ℕ → List ℕ
-driftTo p s z key src v zero = complementDrift p z (bodyAmount p (at src (p .n)))
+driftTo p s z key src v zero = complementWords p z (bodyAmount p (at src (p .n)))
 driftTo p s z key src v (suc k) = driftStep p z key k (at s k) (at src k) (stepsTo p key src (startOf p v (at src (p .n))) k) (driftTo p s z key src v k)
 
 -- The amount turned after the first k steps, modulo 2N: b's, and each mask's whose key bit is 1.

@@ -2,30 +2,17 @@
 ghost use mathlib.Core.Path.{_≡_};
 ghost use Prim.Native.Nat.{_+_, _*_, _≤_, _<_};
 ghost use lib.ListN.{length};
-ghost use Rattle.ring.specs.Poly.{minus};
 ghost use Rattle.params.specs.Refusal.{answer};
 ghost use Rattle.params.specs.Ranges.{paramsNumber};
 ghost use Rattle.params.specs.Sizes.{size, bitWords, bootstrappingWords};
 ghost use Rattle.trgsw.specs.External.{cmuxOf};
-ghost use Rattle.blind_rotation.specs.Blind.{turned, blindStep, stepsTo, blindRotated, testPair};
+ghost use Rattle.blind_rotation.specs.Blind.{turned, blindStep, stepsTo, blindRotated};
 ghost use Rattle.blind_rotation.specs.Refusals.{stepNumber, stepOut, blindNumber, blindOut};
 use params::Answer;
 use params::Params;
 use utils::Amount;
 use utils::Torus;
-
-// y taken off, word by word.
-fn subtract(y: &[u32], out: &mut [u32])
-    requires { ⌜ length (now y) ≡ length (now out) ⌝ }
-    ensures { λ _. ⌜ now (out .exit) ≡ minus (length (now (out .entry))) (now (out .entry)) (now (y .entry)) ⌝ }
-{
-    let n = out.len();
-    let mut i = 0;
-    while i < n {
-        out[i] = ring::sub(out[i], y[i]);
-        i += 1;
-    }
-}
+ghost use Rattle.key.specs.Testvec.{testPair};
 
 // One step by the amount k, with one bit's rows: the turned accumulator less the accumulator, in the scratch (ta, tb), times the rows is added to it.
 fn step_by(
@@ -44,8 +31,8 @@ fn step_by(
 {
     rotation::poly_mul_with_x_k(p, a, k, ta);
     rotation::poly_mul_with_x_k(p, b, k, tb);
-    subtract(a, ta);
-    subtract(b, tb);
+    words::subtract(a, ta);
+    words::subtract(b, tb);
     trgsw::external_product_add(p, rows, ta, tb, a, b);
 }
 
@@ -168,22 +155,10 @@ fn step_number(p: Params, lk: usize, i: usize, la: usize, lb: usize) -> u32
     ensures { λ r. ⌜ r ≡ stepNumber p lk i la lb ⌝ }
 {
     let s = params::sizes_of(p);
-    if s.number != 0 {
-        return 1;
-    }
-    if lk != s.bsk {
-        return 2;
-    }
-    if la != s.size {
-        return 2;
-    }
-    if lb != s.size {
-        return 2;
-    }
-    if s.n <= i {
-        return 3;
-    }
-    0
+    let number = refusals::is(s.number, lk, s.bsk, 2);
+    let number = refusals::is(number, la, s.size, 2);
+    let number = refusals::is(number, lb, s.size, 2);
+    refusals::below(number, i, s.n, 3)
 }
 
 // Step i of the blind rotation, i below n, by the ciphertext's mask i: what it makes of the accumulator (a, b). Refusals: 1, 2, 3.
@@ -211,22 +186,10 @@ fn blind_number(p: Params, ls: usize, lk: usize, la: usize, lb: usize) -> u32
     ensures { λ r. ⌜ r ≡ blindNumber p ls lk la lb ⌝ }
 {
     let s = params::sizes_of(p);
-    if s.number != 0 {
-        return 1;
-    }
-    if ls != s.level0 {
-        return 2;
-    }
-    if lk != s.bsk {
-        return 2;
-    }
-    if la != s.size {
-        return 2;
-    }
-    if lb != s.size {
-        return 2;
-    }
-    0
+    let number = refusals::is(s.number, ls, s.level0, 2);
+    let number = refusals::is(number, lk, s.bsk, 2);
+    let number = refusals::is(number, la, s.size, 2);
+    refusals::is(number, lb, s.size, 2)
 }
 
 // The gates' start vector rotated by the level-0 ciphertext src, into (a, b): the fold of the steps. Refusals: 1, 2.

@@ -4,30 +4,32 @@
 use mathlib.Core.Path.{_≡_, refl, sym, ap, ap₂, _∙_}
 use mathlib.Core.Bool.{Bool, true, false, cond}
 use mathlib.Core.List.{List, [], _∷_, _++_}
-use Prim.Native.Nat.{ℕ, _+_, _-_, _*_, _%_, _≤_, _<_}
+use Prim.Native.Nat.{ℕ, _+_, _-_, _*_, _%_, _<_}
 use native.Mathlib.Nat.{one-mul}
 use native.Mathlib.Omega.{arith}
 use lib.Dec.{ltb}
 use lib.ListN.{length, take, drop, length-append}
-use lib.Seq.{take-take, take-add, take-at, drop-at, drop-drop, getD-take, getD-drop}
+use lib.Seq.{take-take, take-add, take-at, drop-at, drop-drop}
 use Rattle.ring.specs.Word.{Q, at}
 use Rattle.ring.specs.Sums.{tab}
 use Rattle.ring.specs.Poly.{plus, minus, times, scale}
 use Rattle.ring.specs.Phase.{phase}
 use Rattle.ring.proofs.Tab.{tab-ext}
+use Rattle.ring.proofs.Parts.{part-at}
 use Rattle.ring.proofs.Solve.{#, :0, :1, _:+_, _:-_, _:*_, solve}
 use Rattle.ring.proofs.Value.{by-value, 𝓟, value, value-plus, value-minus, value-times, value-scale, value-one, const, const-zero, const-one}
 use Rattle.ring.proofs.Laws.{plus-proper, minus-proper, scale-proper, value-phase}
 use Rattle.params.specs.declared.Params.{Params}
 use Rattle.params.specs.Sizes.{size, bitWords}
 use Rattle.params.proofs.Ranges.{size-from}
-use Rattle.product.proofs.Uses.{length-plus}
-use Rattle.key.proofs.Joins.{length-joined, joined-part}
+use Rattle.ring.proofs.Places.{length-plus}
+use Rattle.ring.proofs.Joins.{length-joined, joined-part}
 use Rattle.decomposition.specs.Digit.{digitWeight}
 use Rattle.trgsw.specs.External.{rowA, rowB}
 use Rattle.trgsw.specs.Errors.{bootstrappingRowError}
-use Rattle.bootstrapping.specs.Rows.{maskMessage, bodyMessage, rowMask, rowBody, keyRow, rowDraw, torusRow, torusRows, bitDraws, bitDraw, keyBit, bootstrappingKey}
-use Rattle.bootstrapping.proofs.Parts.{fits}
+use Rattle.bootstrapping.specs.Rows.{rowDraw, torusRow, torusRows, bitDraws, bitDraw, keyBit, bootstrappingKey}
+use Rattle.bootstrapping.specs.Private.{maskMessage, bodyMessage, rowMask, rowBody}
+use Rattle.bootstrapping.proofs.Parts.{fits, row-halved}
 use Rattle.ring.specs.Lists.{part}
 
 -- ---- the phase of a row, less what it should carry
@@ -75,14 +77,10 @@ halves N x a b la e =
       sym (drop-at (take N x) (take N (drop N x)) N (ap length first ∙ la)) ∙ ap (drop N) (sym (take-add N N x) ∙ e) ∙ drop-at a b N la,
     )
 
--- word x of a part of n words
-draw-word : (n k : ℕ) (l : List ℕ) (x : ℕ) → x < n → at (take n (drop k l)) x ≡ at l (k + x)
-draw-word n k l x h = getD-take n (drop k l) x 0 h ∙ getD-drop k l x 0
-
 module _ (p : Params) (m : ℕ) (z masks noise : List ℕ) where
   pub length-row : (r : ℕ) → length (torusRow p m z masks noise r) ≡ size p + size p
-  unfolding torusRow keyRow rowMask rowBody
-  length-row r = simp (length-append, length-plus (size p))
+  unfolding torusRow rowMask rowBody
+  length-row r = ap length (row-halved p m r z (rowDraw p masks r) (rowDraw p noise r)) ∙ simp (length-append, length-plus (size p))
 
   pub length-rows : length (torusRows p m z masks noise) ≡ bitWords p
   unfolding torusRows
@@ -91,11 +89,11 @@ module _ (p : Params) (m : ℕ) (z masks noise : List ℕ) where
   module _ (r : ℕ) (hr : r < p .l + p .l) where
     -- row r of the rows, by halves
     row-halves : (rowA p (torusRows p m z masks noise) r ≡ rowMask p m r (rowDraw p masks r)) × (rowB p (torusRows p m z masks noise) r ≡ rowBody p m r z (rowDraw p masks r) (rowDraw p noise r))
-    unfolding rowA rowB part torusRows torusRow keyRow rowMask
+    unfolding rowA rowB part torusRows torusRow rowMask
     row-halves =
         let k = r * (size p + size p) in
         let e = halves (size p) (drop k (torusRows p m z masks noise)) (rowMask p m r (rowDraw p masks r)) (rowBody p m r z (rowDraw p masks r) (rowDraw p noise r)) (length-plus (size p) _ _)
-        (joined-part (size p + size p) (torusRow p m z masks noise) (p .l + p .l) (λ q l. length-row q) r hr) in
+        (joined-part (size p + size p) (torusRow p m z masks noise) (p .l + p .l) (λ q l. length-row q) r hr ∙ row-halved p m r z (rowDraw p masks r) (rowDraw p noise r)) in
         (e .0, ap (take (size p)) (sym (drop-drop (size p) k (torusRows p m z masks noise))) ∙ e .1)
 
     -- the error of row r of an encryption of m is its noise
@@ -103,14 +101,14 @@ module _ (p : Params) (m : ℕ) (z masks noise : List ℕ) where
     unfolding scale rowDraw
     error-noise =
         error-of p m r z (rowDraw p masks r) (rowDraw p noise r) (torusRows p m z masks noise) (row-halves .0) (row-halves .1)
-        ∙ tab-ext (size p) _ _ (λ x l. ap (λ (y : ℕ). y % Q) (one-mul (at (rowDraw p noise r) x) ∙ draw-word (size p) (r * size p) noise x l))
+        ∙ tab-ext (size p) _ _ (λ x l. ap (λ (y : ℕ). y % Q) (one-mul (at (rowDraw p noise r) x) ∙ part-at noise (r * size p) (size p) x l))
 
 -- ---- the bits in the whole key
 
 module _ (p : Params) (key z masks noise : List ℕ) (i : ℕ) (hi : i < p .n) where
   -- bit i's part of the key
   pub bit-part : part (bitWords p) (i * bitWords p) (bootstrappingKey p key z masks noise) ≡ keyBit p key z masks noise i
-  unfolding part bootstrappingKey keyBit
+  unfolding bootstrappingKey keyBit
   bit-part = joined-part (bitWords p) (keyBit p key z masks noise) (p .n) (λ j l. length-rows p (at key j) z (bitDraw p masks j) (bitDraw p noise j)) i hi
 
   -- the error of row r of bit i is its noise, drawn in row order
@@ -122,4 +120,4 @@ module _ (p : Params) (key z masks noise : List ℕ) (i : ℕ) (hi : i < p .n) w
       ∙ error-noise p (at key i) z (bitDraw p masks i) (bitDraw p noise i) r hr
       ∙ tab-ext (size p) _ _ (λ x l.
       let f = fits r (p .l + p .l) (size p) (size p) {len = bitDraws p} hr refl refl in
-      ap (λ (y : ℕ). y % Q) (draw-word (bitDraws p) (i * bitDraws p) noise (r * size p + x) (omega arith)))
+      ap (λ (y : ℕ). y % Q) (part-at noise (i * bitDraws p) (bitDraws p) (r * size p + x) (omega arith)))

@@ -4,37 +4,33 @@ use mathlib.Core.Bool.{cond}
 use mathlib.Core.List.{List, [], _∷_, _++_}
 use Prim.Native.Nat.{ℕ, _+_, _-_, _*_}
 use lib.Dec.{ltb}
-use lib.ListN.{take, drop}
 use Rattle.ring.specs.Word.{at}
-use Rattle.ring.specs.Poly.{plus, times, scale}
+use Rattle.ring.specs.Lists.{part, joined}
+use Rattle.ring.specs.Poly.{plus, times}
+use Rattle.ring.specs.Pair.{Pair, pairPlus, pairScale}
 use Rattle.params.specs.declared.Params.{Params}
 use Rattle.params.specs.Sizes.{size}
 use Rattle.decomposition.specs.Digit.{digitWeight}
-use Rattle.ring.specs.Lists.{joined}
 
--- What row r of an encryption of the word m has added to a[0]: m·g_r for r below L, nothing from L on.
-unfoldable pub maskMessage : Params → ℕ → ℕ → ℕ
-maskMessage p m r = cond (ltb r (p .l)) (m * digitWeight p r) 0
+-- Row r of the gadget H (TFHE paper, 3.3): for r below L the constant g_r in a, and from L on g_(r-L) in b.
+unfoldable pub gadgetRow : Params → ℕ → Pair
+gadgetRow p r = cond (ltb r (p .l)) (record { a = digitWeight p r ∷ []; b = [] }) (record { a = []; b = digitWeight p (r - p .l) ∷ [] })
 
--- What it has added to b[0]: nothing for r below L, m·g_i for row L + i.
-unfoldable pub bodyMessage : Params → ℕ → ℕ → ℕ
-bodyMessage p m r = cond (ltb r (p .l)) 0 (m * digitWeight p (r - p .l))
+-- A row of Z: an encryption of zero under the level-1 key z, its a the masks drawn, its b noise + masks·z (01, trlwe).
+unfoldable pub zeroRow : Params → List ℕ → List ℕ → List ℕ → Pair
+zeroRow p z masks noise = record { a = masks; b = plus (size p) noise (times (size p) masks z) }
 
--- The a of row r, which drew these masks: the masks with m·g_r added to the first, as the constant polynomial.
-unfoldable pub rowMask : Params → ℕ → ℕ → List ℕ → List ℕ
-rowMask p m r masks = plus (size p) masks (scale (size p) (maskMessage p m r) (1 ∷ []))
+-- Row r of Z + m·H, as a pair.
+unfoldable pub pairRow : Params → ℕ → ℕ → List ℕ → List ℕ → List ℕ → Pair
+pairRow p m r z masks noise = pairPlus (size p) (zeroRow p z masks noise) (pairScale (size p) m (gadgetRow p r))
 
--- Its b: an encryption of zero, noise + masks·z with z the level-1 key (01, trlwe), and then m·g_i added to the first.
-unfoldable pub rowBody : Params → ℕ → ℕ → List ℕ → List ℕ → List ℕ → List ℕ
-rowBody p m r z masks noise = plus (size p) (plus (size p) noise (times (size p) masks z)) (scale (size p) (bodyMessage p m r) (1 ∷ []))
-
--- The row: 2N words, a then b.
+-- The row of the key: its 2N words, a then b.
 unfoldable pub keyRow : Params → ℕ → ℕ → List ℕ → List ℕ → List ℕ → List ℕ
-keyRow p m r z masks noise = rowMask p m r masks ++ rowBody p m r z masks noise
+keyRow p m r z masks noise = pairRow p m r z masks noise .a ++ pairRow p m r z masks noise .b
 
 -- The N words that row r draws from one bit's masks, or from its noise: they are used in row order.
 unfoldable pub rowDraw : Params → List ℕ → ℕ → List ℕ
-rowDraw p words r = take (size p) (drop (r * size p) words)
+rowDraw p words r = part (size p) (r * size p) words
 
 -- Row r of an encryption of m, from the masks and the noise of all its rows.
 unfoldable pub torusRow : Params → ℕ → List ℕ → List ℕ → List ℕ → ℕ → List ℕ
@@ -50,7 +46,7 @@ bitDraws p = (p .l + p .l) * size p
 
 -- The words that bit i draws from the masks of a whole key, or from its noise.
 unfoldable pub bitDraw : Params → List ℕ → ℕ → List ℕ
-bitDraw p words i = take (bitDraws p) (drop (i * bitDraws p) words)
+bitDraw p words i = part (bitDraws p) (i * bitDraws p) words
 
 -- Bit i's part of the bootstrapping key: an encryption of the level-0 key's word i.
 unfoldable pub keyBit : Params → List ℕ → List ℕ → List ℕ → List ℕ → ℕ → List ℕ

@@ -17,25 +17,11 @@ fn torus_number(p: Params, masks: usize, noise: usize, key: &[u32], out: usize) 
     ensures { λ r. ⌜ r ≡ torusNumber p masks noise (now (key .entry)) out ⌝ }
 {
     let s = params::sizes_of(p);
-    if s.number != 0 {
-        return 1;
-    }
-    if masks != s.bitmasks {
-        return 2;
-    }
-    if noise != s.bitmasks {
-        return 2;
-    }
-    if key.len() != s.size {
-        return 2;
-    }
-    if out != s.bit {
-        return 2;
-    }
-    if tlwe::keys::key_number(key) != 0 {
-        return 4;
-    }
-    0
+    let number = refusals::is(s.number, masks, s.bitmasks, 2);
+    let number = refusals::is(number, noise, s.bitmasks, 2);
+    let number = refusals::is(number, key.len(), s.size, 2);
+    let number = refusals::is(number, out, s.bit, 2);
+    refusals::also(number, tlwe::keys::is_binary(key), 4)
 }
 
 // `encrypt_torus` with lent masks and noise: 2L rows of 2N words, each a then b, encryptions of zero to which m times the gadget is added.
@@ -74,31 +60,13 @@ fn bootstrapping_number(
     ensures { λ r. ⌜ r ≡ bootstrappingNumber p (now («key_lv0» .entry)) (now («key_lv1» .entry)) masks noise out ⌝ }
 {
     let s = params::sizes_of(p);
-    if s.number != 0 {
-        return 1;
-    }
-    if key_lv0.len() != s.n {
-        return 2;
-    }
-    if key_lv1.len() != s.size {
-        return 2;
-    }
-    if masks != s.bskmasks {
-        return 2;
-    }
-    if noise != s.bskmasks {
-        return 2;
-    }
-    if out != s.bsk {
-        return 2;
-    }
-    if tlwe::keys::key_number(key_lv0) != 0 {
-        return 4;
-    }
-    if tlwe::keys::key_number(key_lv1) != 0 {
-        return 4;
-    }
-    0
+    let number = refusals::is(s.number, key_lv0.len(), s.n, 2);
+    let number = refusals::is(number, key_lv1.len(), s.size, 2);
+    let number = refusals::is(number, masks, s.bskmasks, 2);
+    let number = refusals::is(number, noise, s.bskmasks, 2);
+    let number = refusals::is(number, out, s.bsk, 2);
+    let number = refusals::also(number, tlwe::keys::is_binary(key_lv0), 4);
+    refusals::also(number, tlwe::keys::is_binary(key_lv1), 4)
 }
 
 // `gen_bootstrapping_key` with lent masks and noise, drawn in row order: `encrypt_torus` of each word of the level-0 key. Refusals: 1, 2, 4.

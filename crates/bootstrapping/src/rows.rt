@@ -7,22 +7,17 @@ ghost use Rattle.ring.specs.Word.{Q};
 ghost use Rattle.ring.specs.Poly.{plus, times};
 ghost use Rattle.params.specs.Ranges.{InRange};
 ghost use Rattle.params.specs.Sizes.{size, bitWords, bootstrappingWords};
-ghost use Rattle.bootstrapping.specs.Rows.{maskMessage, bodyMessage, keyRow, torusRows, bitDraws, bootstrappingKey};
+ghost use Rattle.bootstrapping.specs.Rows.{keyRow, torusRows, bitDraws, bootstrappingKey};
+ghost use Rattle.bootstrapping.specs.Private.{maskMessage, bodyMessage};
 use params::Params;
 
 // The words of source, c added to the first of them.
 fn put(source: &[u32], c: u32, out: &mut [u32])
-    requires { ⌜ length (now source) ≡ length (now out) ⌝ }
+    requires { ⌜ (length (now source) ≡ length (now out)) × (0 < length (now out)) ⌝ }
     ensures { λ _. ⌜ now (out .exit) ≡ plus (length (now (out .entry))) (now (source .entry)) (c ∷ []) ⌝ }
 {
-    let n = out.len();
-    let mut first = c;
-    let mut i = 0;
-    while i < n {
-        out[i] = ring::add(source[i], first);
-        first = 0;
-        i += 1;
-    }
+    words::copy(source, out);
+    out[0] = ring::add(source[0], c);
 }
 
 // m·g_i, modulo 2^32. The Rust takes g_i as the word of the double BG^-(i+1), a power of 2 not below 2^-32: exact.

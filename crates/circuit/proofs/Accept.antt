@@ -4,19 +4,21 @@
 use mathlib.Core.Path.{_≡_, refl, sym, ap, _∙_}
 use mathlib.Core.Logic.{_⊎_, inl, inr, ⊎-elim}
 use mathlib.Core.Bool.{Bool, true, false}
-use mathlib.Core.List.{List}
+use mathlib.Core.List.{List, [], _∷_}
 use Prim.Native.Nat.{ℕ, zero, suc, _+_, _*_, _≤_, _<_}
 use native.Mathlib.Decide.{ℕ-discrete}
 use native.Mathlib.Omega.{arith}
 use borrow.Author.Tests.{leb-true, ltb-true, ltb-false, eqb-true, le-leb, lt-ltb, le-ltb, eq-eqb, ne-eqb}
-use lib.Dec.{lit<, leb, ltb, eqb}
+use lib.Dec.{T, lit<, leb, ltb, eqb, ltb→lt}
 use lib.ListN.{length}
 use Rattle.ring.specs.Word.{at}
 use Rattle.params.specs.declared.Answer.{Answer}
 use Rattle.params.specs.Refusal.{answer, check}
 use Rattle.params.proofs.Answers.{passed}
-use Rattle.circuit.specs.Kinds.{kindOf}
-use Rattle.circuit.specs.Form.{version, inputs, gates, outputs, wires, gatePlace, kindAt, operandAt, outputAt, outputPlace, checkAt, orElse, first, operandGood, operandsAnswer, gateAnswer, outputAnswer, countsAnswer, headAnswer, answerOf}
+use Rattle.kinds.specs.Kinds.{kindOf}
+use Rattle.circuit.specs.Form.{version, inputs, gates, outputs, wires, gatePlace, kindAt, operandAt, outputAt, outputPlace, orElse, first, operandGood, outputAnswer, answerOf, gateFields, headFields, FieldCheck, asks, firstAt}
+use Rattle.circuit.specs.Private.{gateAnswer, headAnswer}
+use Rattle.kinds.proofs.Table.{both, both-left, both-right}
 use Rattle.circuit.specs.Valid.{Head, GoodGate, Valid}
 use Rattle.circuit.specs.Plain.{runAnswer}
 
@@ -29,10 +31,21 @@ lt-or-ge x n = go (ltb x n) refl
 
 -- ---- answers that do not refuse
 
--- a check that does not refuse has passed, and so have those after it
-passed-at : (t : Bool) (n p : ℕ) (rest : Answer) → 0 < n → checkAt t n p rest .number ≡ 0 → (t ≡ true) × (rest .number ≡ 0)
-passed-at true n p rest h e = (refl, e)
-passed-at false n p rest h e = absurd (omega arith)
+-- every check's test holds
+abbrev Passed : List FieldCheck → Type 0
+Passed [] = Unit {0}
+Passed (asks test n p ∷ checks) = (test ≡ true) × Passed checks
+
+-- the numbers of checks are not 0, which computes
+abbrev numbered : List FieldCheck → Bool
+numbered [] = true
+numbered (asks test n p ∷ checks) = both (ltb 0 n) (numbered checks)
+
+-- checks that do not refuse have all passed
+all-passed : (checks : List FieldCheck) → T (numbered checks) → firstAt checks .number ≡ 0 → Passed checks
+all-passed [] t e = tt
+all-passed (asks true n p ∷ checks) t e = (refl, all-passed checks (both-right (ltb 0 n) (numbered checks) t) e)
+all-passed (asks false n p ∷ checks) t e = absurd (let h = ltb→lt 0 n (both-left (ltb 0 n) (numbered checks) t) in let q : ⊥ = omega arith in q)
 
 pub both-done : (a b : Answer) → orElse a b .number ≡ 0 → (a .number ≡ 0) × (b .number ≡ 0)
 both-done a b = go (ℕ-discrete (a .number) 0)
@@ -60,32 +73,21 @@ first-done f i (suc n) h = or-done (f i) (first f (suc i) n) (h i (omega arith))
 
 module _ (bs : List ℕ) where
   pub head-good : headAnswer bs .number ≡ 0 → Head bs
-  unfolding headAnswer countsAnswer
+  unfolding headFields
   head-good h =
-      let eight : 0 < 8 = lit< tt in
-      let six : 0 < 6 = lit< tt in
-      let seven : 0 < 7 = lit< tt in
-      let s1 = passed-at _ _ _ _ eight h in
-      let s2 = passed-at _ _ _ _ six (s1 .1) in
-      let s3 = passed-at _ _ _ _ six (s2 .1) in
-      let s4 = passed-at _ _ _ _ six (s3 .1) in
-      let s5 = passed-at _ _ _ _ seven (s4 .1) in
-      let s6 = passed-at _ _ _ _ eight (s5 .1) in
-      let s7 = passed-at _ _ _ _ eight (s6 .1) in
-      let s8 = passed-at _ _ _ _ eight (s7 .1) in
-      let s9 = passed-at _ _ _ _ eight (s8 .1) in
-      let s10 = passed-at _ _ _ _ eight (s9 .1) in
+      let s = all-passed (headFields bs) tt h in
+      let c = s .1 .1 .1 .1 .1 in
       record {
-        long = leb-true _ _ (s1 .0);
-        e = eqb-true _ _ (s2 .0);
-        g = eqb-true _ _ (s3 .0);
-        l = eqb-true _ _ (s4 .0);
-        version-one = eqb-true _ _ (s5 .0);
-        inputs-to = leb-true _ _ (s6 .0);
-        gates-to = leb-true _ _ (s7 .0);
-        outputs-from = leb-true _ _ (s8 .0);
-        outputs-to = leb-true _ _ (s9 .0);
-        whole = eqb-true _ _ (s10 .0);
+        long = leb-true _ _ (s .0);
+        e = eqb-true _ _ (s .1 .0);
+        g = eqb-true _ _ (s .1 .1 .0);
+        l = eqb-true _ _ (s .1 .1 .1 .0);
+        version-one = eqb-true _ _ (s .1 .1 .1 .1 .0);
+        inputs-to = leb-true _ _ (c .0);
+        gates-to = leb-true _ _ (c .1 .0);
+        outputs-from = leb-true _ _ (c .1 .1 .0);
+        outputs-to = leb-true _ _ (c .1 .1 .1 .0);
+        whole = eqb-true _ _ (c .1 .1 .1 .1 .0);
       }
 
   module _ (g : ℕ) where
@@ -105,25 +107,21 @@ module _ (bs : List ℕ) where
     three P a b c (suc (suc (suc x))) h = absurd (let q : ⊥ = omega arith in q)
 
     gate-good : gateAnswer bs g .number ≡ 0 → GoodGate bs g
-    unfolding gateAnswer operandsAnswer
+    unfolding gateFields
     gate-good h =
-        let nine : 0 < 9 = lit< tt in
-        let s1 = passed-at _ _ _ _ nine h in
-        let s2 = passed-at _ _ _ _ nine (s1 .1) in
-        let s3 = passed-at _ _ _ _ nine (s2 .1) in
-        let s4 = passed-at _ _ _ _ nine (s3 .1) in
-        let s5 = passed-at _ _ _ _ nine (s4 .1) in
-        let good = three (λ x. operandGood bs g x ≡ true) (s3 .0) (s4 .0) (s5 .0) in
+        let s = all-passed (gateFields bs g) tt h in
+        let o = s .1 .1 in
+        let good = three (λ x. operandGood bs g x ≡ true) (o .0) (o .1 .0) (o .1 .1 .0) in
         record {
-          kind-to = leb-true _ _ (s1 .0);
-          zero-byte = eqb-true _ _ (s2 .0);
+          kind-to = leb-true _ _ (s .0);
+          zero-byte = eqb-true _ _ (s .1 .0);
           needed = λ x l h. operand-needed x (good x l) h;
           others = λ x l h. operand-other x (good x l) h;
         }
 
   output-good : (o : ℕ) → outputAnswer bs o .number ≡ 0 → outputAt bs o < wires bs
   unfolding outputAnswer
-  output-good o h = ltb-true _ _ (passed-at _ _ _ _ (lit< tt) h .0)
+  output-good o h = ltb-true _ _ (all-passed (asks (ltb (outputAt bs o) (wires bs)) 10 (outputPlace bs o) ∷ []) tt h .0)
 
   pub accepted : answerOf bs .number ≡ 0 → Valid bs
   unfolding answerOf
@@ -140,7 +138,7 @@ module _ (bs : List ℕ) where
 
   module _ (v : Valid bs) where
     head-done : headAnswer bs ≡ answer 0
-    unfolding headAnswer countsAnswer
+    unfolding headFields
     head-done =
         let h = v .head in
         simp (le-leb 11 (length bs) (h .long), eq-eqb (at bs 0) 69 (h .e), eq-eqb (at bs 1) 71 (h .g), eq-eqb (at bs 2) 76 (h .l), eq-eqb (version bs) 1 (h .version-one), le-leb (inputs bs) 256 (h .inputs-to), le-leb (gates bs) 1024 (h .gates-to), le-leb 1 (outputs bs) (h .outputs-from), le-leb (outputs bs) 64 (h .outputs-to), eq-eqb (length bs) (outputPlace bs (outputs bs)) (h .whole))
@@ -155,7 +153,7 @@ module _ (bs : List ℕ) where
         (lt-or-ge x n)
 
     gate-done : (g : ℕ) → GoodGate bs g → gateAnswer bs g .number ≡ 0
-    unfolding gateAnswer operandsAnswer
+    unfolding gateFields
     gate-done g d =
         simp (le-leb (kindAt bs g) 13 (d .kind-to), eq-eqb (at bs (gatePlace g + 1)) 0 (d .zero-byte), operand-done g d 0 (lit< tt), operand-done g d 1 (lit< tt), operand-done g d 2 (lit< tt))
 

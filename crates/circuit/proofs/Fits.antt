@@ -10,10 +10,11 @@ use borrow.Author.Tests.{le-ltb, ne-eqb}
 use lib.Dec.{ltb, eqb, T}
 use lib.ListN.{getD}
 use Rattle.params.specs.Refusal.{answer}
-use Rattle.circuit.specs.Kinds.{kindOf}
-use Rattle.circuit.specs.Form.{fieldAt, inputs, gatePlace, kindAt, operandAt, checkAt, operandGood}
-use Rattle.circuit.proofs.Table.{same, same-is, entry}
-use Rattle.circuit.proofs.Columns.{operandTable, operand-entry}
+use Rattle.kinds.specs.Kinds.{kindOf}
+use Rattle.circuit.specs.Form.{fieldAt, inputs, gatePlace, kindAt, operandAt, operandGood}
+use Rattle.circuit.specs.Private.{checkAt}
+use Rattle.kinds.proofs.Table.{same, same-is, entry}
+use Rattle.kinds.proofs.Columns.{operandTable, operand-entry}
 
 -- ---- the table
 

@@ -16,12 +16,12 @@ use Rattle.ring.specs.Sums.{sumTo, tab}
 use Rattle.ring.proofs.Tab.{at-tab, length-tab}
 use Rattle.params.specs.declared.Answer.{Answer}
 use Rattle.params.proofs.Answers.{when-done}
-use Rattle.circuit.specs.Kinds.{kinds, kindOf}
+use Rattle.kinds.specs.Kinds.{kinds, kindOf, bitMeaning}
 use Rattle.circuit.specs.Form.{inputs, gates, outputs, wires, kindAt, operandAt, outputAt}
 use Rattle.circuit.specs.Valid.{GoodGate, Valid}
-use Rattle.circuit.specs.Plain.{bitMeaning, gateBit, wiresTo, wiresOf, inputBits, outputBits, workOf, runOut}
-use Rattle.circuit.proofs.Table.{entry}
-use Rattle.circuit.proofs.Columns.{operandTable, operand-entry, work-entry}
+use Rattle.circuit.specs.Plain.{gateBit, wiresTo, wiresOf, inputBits, outputBits, workOf, runOut}
+use Rattle.kinds.proofs.Table.{entry}
+use Rattle.kinds.proofs.Columns.{operandTable, operand-entry, work-entry}
 use Rattle.circuit.proofs.Accept.{RunGood, run-done, lt-or-ge}
 use Rattle.circuit.proofs.Wires.{length-wires, wires-kept, wires-own}
 use Rattle.ring.specs.Bit.{truth, bitNumber}

@@ -1,5 +1,3 @@
-pub mod Table
-pub mod Columns
 pub mod Fits
 pub mod Steps
 pub mod Accept

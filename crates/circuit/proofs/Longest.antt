@@ -14,7 +14,8 @@ use lib.Seq.{length-take-le, take-all, getD-take}
 use Rattle.ring.specs.Word.{at}
 use Rattle.params.specs.declared.Answer.{Answer}
 use Rattle.params.specs.Refusal.{answer}
-use Rattle.circuit.specs.Form.{fieldAt, version, inputs, gates, outputs, outputPlace, longest, checkAt, orElse, countsAnswer, headAnswer, answerOf}
+use Rattle.circuit.specs.Form.{fieldAt, version, inputs, gates, outputs, outputPlace, longest, orElse, answerOf, headFields}
+use Rattle.circuit.specs.Private.{checkAt, headAnswer}
 use Rattle.circuit.specs.Valid.{Head, Valid}
 use Rattle.circuit.proofs.Accept.{lt-or-ge, head-good, accepted}
 
@@ -57,7 +58,7 @@ abbrev headed : List ℕ → Bool → Answer
 headed bs t = fields (at bs 0) (at bs 1) (at bs 2) (version bs) (counts (inputs bs) (gates bs) (outputs bs) t)
 
 has-head : (bs : List ℕ) → 11 ≤ length bs → headAnswer bs ≡ headed bs (eqb (length bs) (outputPlace bs (outputs bs)))
-unfolding headAnswer countsAnswer
+unfolding headFields
 has-head bs h = rw (le-leb 11 (length bs) h)
 
 long-head : (bs : List ℕ) → longest < length bs → headAnswer bs ≡ headed bs false

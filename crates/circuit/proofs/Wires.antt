@@ -61,8 +61,8 @@ module _ (bs w : List ℕ) (n : ℕ) (h : n ≤ length w) where
         ∙ ap (λ (b : List ℕ). b ++ drop (n + (g + 1)) w) (ap (λ (x : ℕ). p ++ (x ∷ [])) ev ∙ sym (wires-more bs (take n w) g))
 
   -- the loop's end
-  pub run-done : (g m : ℕ) {bits : List ℕ} → g ≤ m → m ≤ g → bits ≡ wiresTo bs (take n w) g ++ drop (n + g) w → bits ≡ wiresTo bs (take n w) m ++ drop (n + m) w
-  run-done g m a b inv = inv ∙ rw (le-antisymm a b)
+  pub run-end : (g m : ℕ) {bits : List ℕ} → g ≤ m → m ≤ g → bits ≡ wiresTo bs (take n w) g ++ drop (n + g) w → bits ≡ wiresTo bs (take n w) m ++ drop (n + m) w
+  run-end g m a b inv = inv ∙ rw (le-antisymm a b)
 
 -- ---- a bit, once there, stays
 
@@ -94,10 +94,10 @@ run-bits bs ins w bits bits′ l e d =
 
 -- ---- sums
 
-pub sum-none : (f : ℕ → ℕ) → 0 ≡ sumTo 0 f
+pub total-none : (f : ℕ → ℕ) → 0 ≡ sumTo 0 f
 unfolding sumTo
-sum-none f = refl
+total-none f = refl
 
-pub sum-more : (f : ℕ → ℕ) (g : ℕ) {s t : ℕ} → s ≡ sumTo g f → t ≡ f g → s + t ≡ sumTo (g + 1) f
+pub total-more : (f : ℕ → ℕ) (g : ℕ) {s t : ℕ} → s ≡ sumTo g f → t ≡ f g → s + t ≡ sumTo (g + 1) f
 unfolding sumTo
-sum-more f g e d = rw (add-one g, e, d)
+total-more f g e d = rw (add-one g, e, d)

@@ -1,6 +1,6 @@
 -- The circuit form (01, 'Circuits'; docs/DECISIONS.md, Readings): the fields of a circuit's bytes, and the answer that reading them gives.
 use mathlib.Core.Bool.{Bool, cond}
-use mathlib.Core.List.{List}
+use mathlib.Core.List.{List, [], _∷_}
 use Prim.Native.Nat.{ℕ, zero, suc, _+_, _*_}
 use lib.Dec.{leb, ltb, eqb}
 use lib.ListN.{length}
@@ -8,7 +8,7 @@ use Rattle.ring.specs.Word.{at}
 use Rattle.params.specs.declared.Answer.{Answer}
 use Rattle.params.specs.Refusal.{answer, ifDone}
 use Rattle.circuit.specs.declared.Shape.{Shape}
-use Rattle.circuit.specs.Kinds.{kindOf, lastKind}
+use Rattle.kinds.specs.Kinds.{kindOf, lastKind}
 
 -- The 16-bit field whose first byte stands at place i, low byte first; 0 past the end.
 unfoldable pub fieldAt : List ℕ → ℕ → ℕ
@@ -64,66 +64,57 @@ longest = gatePlace 1024 + 2 * 64
 
 -- ---- the answer
 
--- A refusal, and the place of the field at fault.
-abbrev pub refusal : ℕ → ℕ → Answer
-refusal n p = record { number = n; place = p }
-
 -- The first answer where it refuses, else the second.
 abbrev pub orElse : Answer → Answer → Answer
 orElse a b = ifDone (a .number) b a
 
--- One check: the refusal where the test fails, else what the checks after it give.
-abbrev pub checkAt : Bool → ℕ → ℕ → Answer → Answer
-checkAt test n p rest = cond test rest (refusal n p)
+-- One check of a field: the test, and the refusal's number and place where it fails.
+pub data FieldCheck : Type 0 where
+  asks : Bool → ℕ → ℕ → FieldCheck
+
+-- The refusal of the first check that fails, done where none does.
+abbrev pub firstAt : List FieldCheck → Answer
+firstAt [] = answer 0
+firstAt (asks test n p ∷ checks) = cond test (firstAt checks) (record { number = n; place = p })
 
 -- The first refusal among f i, f (i + 1), .. of so many answers; done where none refuses.
 unfoldable pub first : (ℕ → Answer) → ℕ → ℕ → Answer
 first f i zero = answer 0
 first f i (suc left) = orElse (f i) (first f (suc i) left)
 
--- The counts in order, then the total length.
-unfoldable pub countsAnswer : List ℕ → Answer
-countsAnswer bs =
-    checkAt (leb (inputs bs) 256) 8 5
-    (checkAt (leb (gates bs) 1024) 8 7
-    (checkAt (leb 1 (outputs bs)) 8 9
-    (checkAt (leb (outputs bs) 64) 8 9
-    (checkAt (eqb (length bs) (outputPlace bs (outputs bs))) 8 11
-    (answer 0)))))
-
--- What comes before the gates: under 11 bytes it is 8 at once; then the mark `EGL`, the version, the counts and the length.
-unfoldable pub headAnswer : List ℕ → Answer
-headAnswer bs =
-    checkAt (leb 11 (length bs)) 8 0
-    (checkAt (eqb (at bs 0) 69) 6 0
-    (checkAt (eqb (at bs 1) 71) 6 0
-    (checkAt (eqb (at bs 2) 76) 6 0
-    (checkAt (eqb (version bs) 1) 7 3
-    (countsAnswer bs)))))
+-- What comes before the gates: under 11 bytes it is 8 at once; then the mark `EGL`, the version, the counts in order and the total length.
+unfoldable pub headFields : List ℕ → List FieldCheck
+headFields bs =
+    asks (leb 11 (length bs)) 8 0
+    ∷ asks (eqb (at bs 0) 69) 6 0
+    ∷ asks (eqb (at bs 1) 71) 6 0
+    ∷ asks (eqb (at bs 2) 76) 6 0
+    ∷ asks (eqb (version bs) 1) 7 3
+    ∷ asks (leb (inputs bs) 256) 8 5
+    ∷ asks (leb (gates bs) 1024) 8 7
+    ∷ asks (leb 1 (outputs bs)) 8 9
+    ∷ asks (leb (outputs bs) 64) 8 9
+    ∷ asks (eqb (length bs) (outputPlace bs (outputs bs))) 8 11
+    ∷ []
 
 -- Operand x of gate g: one that its kind needs is below its own wire, which is inputs + g; another is 0.
 unfoldable pub operandGood : List ℕ → ℕ → ℕ → Bool
 operandGood bs g x = cond (ltb x (kindOf (kindAt bs g) .operands)) (ltb (operandAt bs g x) (inputs bs + g)) (eqb (operandAt bs g x) 0)
 
--- The operands of gate g, in order.
-unfoldable pub operandsAnswer : List ℕ → ℕ → Answer
-operandsAnswer bs g =
-    checkAt (operandGood bs g 0) 9 (gatePlace g + 2)
-    (checkAt (operandGood bs g 1) 9 (gatePlace g + 4)
-    (checkAt (operandGood bs g 2) 9 (gatePlace g + 6)
-    (answer 0)))
-
--- Gate g, field by field: its kind, the zero byte, the operands.
-unfoldable pub gateAnswer : List ℕ → ℕ → Answer
-gateAnswer bs g =
-    checkAt (leb (kindAt bs g) lastKind) 9 (gatePlace g)
-    (checkAt (eqb (at bs (gatePlace g + 1)) 0) 9 (gatePlace g + 1)
-    (operandsAnswer bs g))
+-- Gate g, field by field: its kind, the zero byte, the operands in order.
+unfoldable pub gateFields : List ℕ → ℕ → List FieldCheck
+gateFields bs g =
+    asks (leb (kindAt bs g) lastKind) 9 (gatePlace g)
+    ∷ asks (eqb (at bs (gatePlace g + 1)) 0) 9 (gatePlace g + 1)
+    ∷ asks (operandGood bs g 0) 9 (gatePlace g + 2)
+    ∷ asks (operandGood bs g 1) 9 (gatePlace g + 4)
+    ∷ asks (operandGood bs g 2) 9 (gatePlace g + 6)
+    ∷ []
 
 -- Output o is one of the wires.
 unfoldable pub outputAnswer : List ℕ → ℕ → Answer
-outputAnswer bs o = checkAt (ltb (outputAt bs o) (wires bs)) 10 (outputPlace bs o) (answer 0)
+outputAnswer bs o = firstAt (asks (ltb (outputAt bs o) (wires bs)) 10 (outputPlace bs o) ∷ [])
 
 -- The answer to a circuit's bytes: the head, the gates in order, the outputs in order.
 unfoldable pub answerOf : List ℕ → Answer
-answerOf bs = orElse (headAnswer bs) (orElse (first (gateAnswer bs) 0 (gates bs)) (first (outputAnswer bs) 0 (outputs bs)))
+answerOf bs = orElse (firstAt (headFields bs)) (orElse (first (λ g. firstAt (gateFields bs g)) 0 (gates bs)) (first (outputAnswer bs) 0 (outputs bs)))

@@ -1,5 +1,5 @@
-pub mod Kinds
 pub mod Form
 pub mod Valid
 pub mod Plain
 pub mod Told
+pub mod Private

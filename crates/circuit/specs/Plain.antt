@@ -9,13 +9,9 @@ use Rattle.ring.specs.Sums.{sumTo, tab}
 use Rattle.params.specs.declared.Answer.{Answer}
 use Rattle.params.specs.Refusal.{ifDone, check, answer}
 use Rattle.circuit.specs.declared.Worked.{Worked}
-use Rattle.circuit.specs.Kinds.{kindOf}
+use Rattle.kinds.specs.Kinds.{kindOf, bitMeaning}
 use Rattle.circuit.specs.Form.{inputs, gates, outputs, kindAt, operandAt, outputAt, answerOf, orElse}
 use Rattle.ring.specs.Bit.{bitNumber, truth}
-
--- A kind's meaning on bits in bytes.
-unfoldable pub bitMeaning : ℕ → ℕ → ℕ → ℕ → ℕ
-bitMeaning k a b c = bitNumber (kindOf k .meaning (truth a) (truth b) (truth c))
 
 -- Gate g's bit, the bits of the wires before it being ws.
 abbrev pub gateBit : List ℕ → List ℕ → ℕ → ℕ

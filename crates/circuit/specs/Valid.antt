@@ -5,7 +5,7 @@ use mathlib.Core.List.{List}
 use Prim.Native.Nat.{ℕ, _+_, _*_, _≤_, _<_}
 use lib.ListN.{length}
 use Rattle.ring.specs.Word.{at}
-use Rattle.circuit.specs.Kinds.{kindOf, lastKind}
+use Rattle.kinds.specs.Kinds.{kindOf, lastKind}
 use Rattle.circuit.specs.Form.{version, inputs, gates, outputs, wires, gatePlace, kindAt, operandAt, outputAt}
 
 -- The mark, the version, the counts and the length.

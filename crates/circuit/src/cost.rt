@@ -3,7 +3,7 @@ use crate::Worked;
 use crate::fields::byte;
 use crate::fields::field;
 use crate::form::check;
-use crate::kinds::work_of;
+use kinds::work_of;
 ghost use mathlib.Core.Path.{_≡_};
 ghost use Prim.Native.Nat.{_≤_};
 ghost use Rattle.circuit.specs.Form.{gates};

@@ -2,14 +2,14 @@
 use crate::fields::byte_there;
 use crate::fields::field;
 use crate::fields::field_there;
-use crate::kinds::operands;
+use kinds::operands;
 use params::Answer;
 ghost use mathlib.Core.Path.{_≡_};
 ghost use Prim.Native.Nat.{_+_, _*_, _≤_, _<_};
 ghost use lib.Dec.{ltb, eqb};
 ghost use lib.ListN.{length};
-ghost use Rattle.circuit.specs.Form.{inputs, gates, outputs, kindAt, countsAnswer, headAnswer};
-ghost use Rattle.circuit.specs.Form.{operandsAnswer, gateAnswer, outputAnswer, first, answerOf};
+ghost use Rattle.circuit.specs.Form.{inputs, gates, outputs, kindAt, outputAnswer, first, answerOf};
+ghost use Rattle.circuit.specs.Private.{countsAnswer, gateAnswer, headAnswer, operandsAnswer};
 ghost use Rattle.circuit.specs.Valid.{Head};
 ghost use mathlib.Core.Bool.{cond};
 

@@ -2,7 +2,6 @@
 mod cost;
 mod fields;
 mod form;
-mod kinds;
 mod plain;
 mod words;
 

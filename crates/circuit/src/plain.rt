@@ -2,7 +2,7 @@
 use crate::fields::byte;
 use crate::fields::field;
 use crate::form::check;
-use crate::kinds::meaning;
+use kinds::meaning;
 use params::Answer;
 ghost use mathlib.Core.Path.{_≡_};
 ghost use mathlib.Core.List.{_++_};

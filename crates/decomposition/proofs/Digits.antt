@@ -4,27 +4,20 @@
 use mathlib.Core.Path.{_≡_, refl, sym, ap, _∙_}
 use mathlib.Core.Logic.{_⊎_, inl, inr}
 use Prim.Native.Nat.{ℕ, zero, suc, _+_, _-_, _*_, _/_, _%_, _^_, _≤_, _<_}
-use native.Mathlib.Nat.{add-mod-mod, add-mul-div-right, le-refl, add-sub-of-le, div-mul-le-self, two-pow-succ, mod-lt, mul-le-mul-right, div-add-mod, div-eq-of-lt, zero-mul}
+use native.Mathlib.Nat.{add-mod-mod, add-mul-div-right, le-refl, add-sub-of-le, div-mul-le-self, two-pow-succ, mod-lt, mul-le-mul-right, div-add-mod, zero-mul}
 use native.Mathlib.Omega.{arith}
 use native.Mathlib.Decide.{decLt}
-use lib.Pow.{pow-add, pow-pos, pow-mono, pow-lt, shr-shr, split, field}
+use lib.Pow.{pow-add, pow-pos, pow-mono, pow-lt, field}
 use Rattle.ring.specs.Word.{Q, Q-pos, neg, fieldOf}
 use Rattle.ring.specs.Sums.{sumTo}
 use Rattle.ring.proofs.Words.{mul-mod-l}
+use Rattle.ring.proofs.Fields.{field-below, fields-sum}
 use Rattle.params.specs.declared.Params.{Params}
 use Rattle.params.specs.Ranges.{InRange}
 use Rattle.key.specs.Offset.{offset}
 use Rattle.decomposition.specs.Digit.{digitOf, digitWeight, cleared}
 
 -- ---- powers
-
--- one more field: what stands above bit t + w, and the field of w bits at t
-more : (y t w : ℕ) → y / 2 ^ (t + w) * 2 ^ (t + w) + y / 2 ^ t % 2 ^ w * 2 ^ t ≡ y / 2 ^ t * 2 ^ t
-more y t w =
-    let e : y / 2 ^ (t + w) ≡ y / 2 ^ t / 2 ^ w = sym (shr-shr y t w) in
-    let p : 2 ^ (t + w) ≡ 2 ^ t * 2 ^ w = pow-add 2 t w in
-    let s : (y / 2 ^ t / 2 ^ w * 2 ^ w + y / 2 ^ t % 2 ^ w) * 2 ^ t ≡ y / 2 ^ t * 2 ^ t = ap (λ (n : ℕ). n * 2 ^ t) (split (y / 2 ^ t) w) in
-    rw (e, p) (omega arith)
 
 -- one digit times its weight, with what was taken off
 term : (f h P : ℕ) → h < Q → ((f + neg h) % Q * P + h * P) % Q ≡ f * P % Q
@@ -54,16 +47,6 @@ module _ (w : ℕ) (w1 : 1 ≤ w) where
   -- half a field at field i's place is one term of the offset
   half : (i : ℕ) → (i + 1) * w ≤ 32 → 2 ^ (w - 1) * 2 ^ (32 - (i + 1) * w) ≡ 2 ^ (31 - i * w)
   half i h = sym (pow-add 2 (w - 1) (32 - (i + 1) * w)) ∙ ap (λ (k : ℕ). 2 ^ k) (omega arith)
-
-  -- the top k fields are the word without the rest
-  fields : (y k : ℕ) → y < Q → k * w ≤ 32 → sumTo k (λ i. fieldOf y w i * 2 ^ (32 - (i + 1) * w)) ≡ y / 2 ^ (32 - k * w) * 2 ^ (32 - k * w)
-  unfolding sumTo fieldOf Q
-  fields y zero hy hk = rw zero-mul (rw (div-eq-of-lt hy) (omega arith))
-  fields y (suc k) hy hk =
-      let ih = fields y k hy (omega arith) in
-      let a : 32 - k * w ≡ 32 - (k + 1) * w + w = omega arith in
-      let b : 32 - suc k * w ≡ 32 - (k + 1) * w = omega arith in
-      rw b (rw ih (rw a (more y (32 - (k + 1) * w) w)))
 
   -- the offset's terms are multiples of 2^s
   halves-high : (s k : ℕ) → k * w + s ≤ 32 → (o : ℕ) × (halves w k ≡ o * 2 ^ s)
@@ -113,15 +96,15 @@ module _ (w : ℕ) (w1 : 1 ≤ w) where
     unfolding Q
     recompose-w hw =
         let b = both hw l (le-refl l) in
-        let f = fields y l (mod-lt (x + halves w l % Q) Q-pos) hl in
+        let f = fields-sum w y l (mod-lt (x + halves w l % Q) Q-pos) hl in
         let t = top (32 - l * w) (add-sub-of-le hl) in
         omega (arith, div-mul-le-self x (2 ^ (32 - l * w)))
 
     range-w : w ≤ 31 → (i : ℕ) → (d i < 2 ^ (w - 1)) ⊎ (Q - 2 ^ (w - 1) ≤ d i)
-    unfolding Q neg fieldOf
+    unfolding Q neg
     range-w w31 i =
         let p : 2 ^ w ≡ 2 ^ (w - 1) + 2 ^ (w - 1) = ap (λ (n : ℕ). 2 ^ n) (let q : w ≡ suc (w - 1) = omega arith in q) ∙ two-pow-succ (w - 1) in
-        let f : fieldOf y w i < 2 ^ w = mod-lt (y / 2 ^ (32 - (i + 1) * w)) (pow-pos w) in
+        let f = field-below y w i in
         let q : 2 ^ (w - 1) ≤ 2 ^ 30 = pow-mono {i = w - 1} {j = 30} (omega arith) in
         go (decLt (fieldOf y w i) (2 ^ (w - 1))) p f q
       where

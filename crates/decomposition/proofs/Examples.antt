@@ -6,7 +6,7 @@ use mathlib.Core.List.{List, [], _∷_}
 use Prim.Native.Nat.{ℕ}
 use Rattle.ring.specs.Word.{Q, neg, fieldOf}
 use Rattle.ring.specs.Sums.{sumTo, tab}
-use Rattle.params.specs.Ranges.{paramsNumber, switchingNumber}
+use Rattle.params.specs.Ranges.{paramsNumber}
 use Rattle.params.specs.Published.{numbers}
 use Rattle.key.specs.Offset.{offset}
 use Rattle.decomposition.specs.Digit.{digitOf, digitPoly}
@@ -21,5 +21,5 @@ pub polynomials : (left 1 0 ≡ 0xFFFFFFE0 ∷ 0xFFFFFFE0 ∷ [])
     × (left 1 5 ≡ 0 ∷ 0xFFFFFFFF ∷ [])
     × (left 1 6 ≡ 9 ∷ 9 ∷ [])
     × (left 0 0 ≡ 9 ∷ 9 ∷ [])
-unfolding Q neg sumTo tab paramsNumber switchingNumber offset fieldOf digitOf digitPoly pairDigit polynomialNumber
+unfolding Q neg sumTo tab paramsNumber offset fieldOf digitOf digitPoly pairDigit polynomialNumber
 polynomials = (refl, refl, refl, refl)

@@ -1,6 +1,6 @@
 // The gadget decomposition (src/trgsw.rs, `decomposition`): the digits of a word, of a polynomial and of a pair of polynomials.
 ghost use mathlib.Core.Path.{_≡_};
-ghost use Prim.Native.Nat.{_+_, _-_, _*_, _^_, _≤_, _<_};
+ghost use Prim.Native.Nat.{_+_, _*_, _<_};
 ghost use lib.ListN.{length};
 ghost use Rattle.params.specs.Refusal.{answer};
 ghost use Rattle.params.specs.Ranges.{InRange};
@@ -11,14 +11,6 @@ ghost use Rattle.decomposition.specs.Pair.{pairDigit, decomposed, polyno
 use params::Answer;
 use params::Params;
 
-// 2^s.
-fn pow2(s: u32) -> u32
-    requires { ⌜ s < 32 ⌝ }
-    ensures { λ r. ⌜ r ≡ 2 ^ s ⌝ }
-{
-    1u32 << s
-}
-
 // Digit i of the word x, the offset being at hand: division and remainder by powers of 2, which are a shift and a mask in the machine's code.
 fn digit_word(p: Params, off: u32, x: u32, i: u32) -> u32
     requires { ⌜ InRange p ⌝ }
@@ -27,8 +19,8 @@ fn digit_word(p: Params, off: u32, x: u32, i: u32) -> u32
 {
     let y = ring::add(x, off);
     let low = 32 - (i + 1) * p.bgbit;
-    let field = y / pow2(low) % pow2(p.bgbit);
-    ring::sub(field, pow2(p.bgbit - 1))
+    let field = y / ring::power(low) % ring::power(p.bgbit);
+    ring::sub(field, ring::power(p.bgbit - 1))
 }
 
 // The digit polynomial i of a.
@@ -82,22 +74,11 @@ fn polynomial_number(p: Params, la: usize, lb: usize, r: u32, lo: usize) -> u32
     ensures { λ number. ⌜ number ≡ polynomialNumber p la lb r lo ⌝ }
 {
     let s = params::sizes_of(p);
-    if s.number != 0 {
-        return 1;
-    }
-    if la != s.size {
-        return 2;
-    }
-    if lb != s.size {
-        return 2;
-    }
-    if lo != s.size {
-        return 2;
-    }
-    if p.l + p.l <= r {
-        return 3;
-    }
-    0
+    let l = p.l as usize;
+    let number = refusals::is(s.number, la, s.size, 2);
+    let number = refusals::is(number, lb, s.size, 2);
+    let number = refusals::is(number, lo, s.size, 2);
+    refusals::below(number, r as usize, l + l, 3)
 }
 
 // The digit polynomial r of the pair (a, b), which row r of a key is multiplied with: r is below 2L, and those of a come first. Refusals: 1, 2, 3.
@@ -119,19 +100,9 @@ fn decomposition_number(p: Params, la: usize, lb: usize, lo: usize) -> u32
     ensures { λ number. ⌜ number ≡ decompositionNumber p la lb lo ⌝ }
 {
     let s = params::sizes_of(p);
-    if s.number != 0 {
-        return 1;
-    }
-    if la != s.size {
-        return 2;
-    }
-    if lb != s.size {
-        return 2;
-    }
-    if lo != s.bitmasks {
-        return 2;
-    }
-    0
+    let number = refusals::is(s.number, la, s.size, 2);
+    let number = refusals::is(number, lb, s.size, 2);
+    refusals::is(number, lo, s.bitmasks, 2)
 }
 
 // The 2L digit polynomials of the pair (a, b), in order. Refusals: 1, 2.

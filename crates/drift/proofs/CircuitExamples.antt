@@ -12,11 +12,10 @@ use Rattle.ring.specs.Word.{Q, neg, comp, fieldOf as digitField}
 use Rattle.ring.specs.Sums.{sumTo, tab}
 use Rattle.ring.specs.Poly.{plus, minus, before, times, scale, total}
 use Rattle.ring.specs.Turn.{source, rotated, complemented}
-use Rattle.ring.specs.Phase.{extract, after, inner, samplePhase}
+use Rattle.ring.specs.Phase.{extract, after, inner, phaseOf, trivial}
 use Rattle.ring.specs.Centre.{H, centre}
 use Rattle.params.specs.declared.Params.{Params}
 use Rattle.params.specs.Published.{numbers}
-use Rattle.tlwe.specs.Key.{phaseOf}
 use Rattle.tlwe.specs.Linear.{negative}
 use Rattle.tlwe.specs.Decrypt.{bitOf}
 use Rattle.rotation.specs.Amount.{half, step, maskAmount, bodyAmount}
@@ -28,14 +27,14 @@ use Rattle.decomposition.specs.Pair.{pairDigit}
 use Rattle.trgsw.specs.External.{rowA, rowB, external, cmuxOf}
 use Rattle.trgsw.specs.Errors.{lowPoly}
 use Rattle.blind_rotation.specs.Blind.{turned, bitRows, blindStep, stepsTo, startOf, blindRotated}
-use Rattle.switching.specs.Switched.{rounding, rounded, fieldWeight, switchField, maskField, used, takes, startWord, switched}
+use Rattle.switching.specs.Switched.{rounding, rounded, maskField, usedRow, maskRows, switched}
 use Rattle.switching.specs.Drift.{dropped}
-use Rattle.gates.specs.Kind.{weightsOf}
-use Rattle.gates.specs.Sum.{summed, muxSum, constantOf}
+use Rattle.gate_sums.specs.Sum.{summed, muxSum, constantOf}
 use Rattle.gates.specs.Gate.{rotatedSample}
 use Rattle.circuit.specs.Form.{fieldAt as byteField}
-use Rattle.encrypted_run.specs.Ways.{ways, wayOf, rotationsOf, rotationSum, samplesOf, made, ran}
-use Rattle.encrypted_run.specs.Run.{cipherAt, gateCipher, ciphersTo, ciphersOf}
+use Rattle.ways.specs.Ways.{ways, wayOf, rotationsOf, rotationSum, samplesOf, made, ran}
+use Rattle.ways.specs.Ciphers.{cipherAt}
+use Rattle.encrypted_run.specs.Run.{gateCipher, ciphersTo, ciphersOf}
 use Rattle.drift.specs.Polynomials.{centred, wholeSum, wholeTimes, wholeTurn, wholePhase, wholePairPhase}
 use Rattle.drift.specs.Whole.{inside, freshDrift, shouldCarry, bootstrappingError, switchingError, remainder, broughtIn, complementsDrift, rowsDrift, stepDrift, rotationDrift, extractedDrift, switchedDrift, gateDrift, muxDrift}
 use Rattle.drift.specs.Circuit.{wayDrift, wayBrought, gateDriftOn, gateBroughtOn, freshTo, driftsTo, broughtTo, driftsOf, broughtOf, outputDriftsTo, allOf, allInside}
@@ -94,14 +93,14 @@ pub nand-inside : (allInside eight key z ksk bsk nand noisy bits ≡ true)
     × (driftsOf eight key z ksk bsk nand noisy bits ≡ pos 0xC000000 ∷ pos 0xC000000 ∷ negℤ (pos 14325906) ∷ [])
     × (broughtOf eight key z ksk bsk nand noisy bits ≡ negℤ (pos 0x10000000) ∷ [])
     × (bitOf (phaseOf 1 key (cipherAt eight (ciphersOf eight ksk bsk nand noisy) 2)) ≡ false)
-unfolding Q neg comp H centre sumTo tab scale plus minus before times total source rotated complemented extract after inner samplePhase half step maskAmount bodyAmount offset carried rowOuter rowField rowDigit drawn rowMasks rowNoise drawnRow generatedRow joined generated rowIndex rowPart digitField digitOf digitPoly digitWeight pairDigit part rowA rowB external cmuxOf lowPoly turned bitRows blindStep stepsTo startOf blindRotated rounding rounded fieldWeight switchField maskField used takes startWord switched dropped weightsOf summed rotatedSample byteField ways wayOf rotationsOf rotationSum samplesOf made ran cipherAt gateCipher ciphersTo centred wholeSum wholeTimes wholeTurn wholePhase wholePairPhase inside freshDrift shouldCarry bootstrappingError switchingError remainder broughtIn complementsDrift rowsDrift stepDrift rotationDrift extractedDrift switchedDrift gateDrift wayDrift wayBrought gateDriftOn gateBroughtOn freshTo driftsTo broughtTo outputDriftsTo allOf allInside
+unfolding Q neg comp H centre sumTo tab scale plus minus before times total source rotated complemented extract after inner phaseOf half step maskAmount bodyAmount offset carried rowOuter rowField rowDigit drawn rowMasks rowNoise drawnRow generatedRow joined generated rowIndex rowPart digitField digitOf digitPoly digitWeight pairDigit part rowA rowB external cmuxOf lowPoly turned bitRows blindStep stepsTo startOf blindRotated rounding rounded maskField usedRow maskRows switched dropped trivial summed rotatedSample byteField ways wayOf rotationsOf rotationSum samplesOf made ran cipherAt gateCipher ciphersTo centred wholeSum wholeTimes wholeTurn wholePhase wholePairPhase inside freshDrift shouldCarry bootstrappingError switchingError remainder broughtIn complementsDrift rowsDrift stepDrift rotationDrift extractedDrift switchedDrift gateDrift wayDrift wayBrought gateDriftOn gateBroughtOn freshTo driftsTo broughtTo outputDriftsTo allOf allInside
 nand-inside = (refl, refl, refl, refl)
 
 -- 2^29 is not inside: the turn falls on the other side, and the output decrypts to true
 pub nand-outside : (allInside eight key z ksk bsk nand noisier bits ≡ false)
     × (broughtOf eight key z ksk bsk nand noisier bits ≡ pos 0x20000000 ∷ [])
     × (bitOf (phaseOf 1 key (cipherAt eight (ciphersOf eight ksk bsk nand noisier) 2)) ≡ true)
-unfolding Q neg comp H centre sumTo tab scale plus minus before times total source rotated complemented extract after inner samplePhase half step maskAmount bodyAmount offset carried rowOuter rowField rowDigit drawn rowMasks rowNoise drawnRow generatedRow joined generated rowIndex rowPart digitField digitOf digitPoly digitWeight pairDigit part rowA rowB external cmuxOf lowPoly turned bitRows blindStep stepsTo startOf blindRotated rounding rounded fieldWeight switchField maskField used takes startWord switched dropped weightsOf summed rotatedSample byteField ways wayOf rotationsOf rotationSum samplesOf made ran cipherAt gateCipher ciphersTo centred wholeSum wholeTimes wholeTurn wholePhase wholePairPhase inside freshDrift shouldCarry bootstrappingError switchingError remainder broughtIn complementsDrift rowsDrift stepDrift rotationDrift extractedDrift switchedDrift gateDrift wayDrift wayBrought gateDriftOn gateBroughtOn freshTo driftsTo broughtTo outputDriftsTo allOf allInside
+unfolding Q neg comp H centre sumTo tab scale plus minus before times total source rotated complemented extract after inner phaseOf half step maskAmount bodyAmount offset carried rowOuter rowField rowDigit drawn rowMasks rowNoise drawnRow generatedRow joined generated rowIndex rowPart digitField digitOf digitPoly digitWeight pairDigit part rowA rowB external cmuxOf lowPoly turned bitRows blindStep stepsTo startOf blindRotated rounding rounded maskField usedRow maskRows switched dropped trivial summed rotatedSample byteField ways wayOf rotationsOf rotationSum samplesOf made ran cipherAt gateCipher ciphersTo centred wholeSum wholeTimes wholeTurn wholePhase wholePairPhase inside freshDrift shouldCarry bootstrappingError switchingError remainder broughtIn complementsDrift rowsDrift stepDrift rotationDrift extractedDrift switchedDrift gateDrift wayDrift wayBrought gateDriftOn gateBroughtOn freshTo driftsTo broughtTo outputDriftsTo allOf allInside
 nand-outside = (refl, refl, refl)
 
 -- a bootstrapping key of no words, which reads as zeros: what is brought in is inside, but the output's drift is a quarter of a turn, and it decrypts to true
@@ -109,7 +108,7 @@ pub nand-astray : (allInside eight key z ksk [] nand noisy bits ≡ false)
     × (broughtOf eight key z ksk [] nand noisy bits ≡ negℤ (pos 0x10000000) ∷ [])
     × (driftsOf eight key z ksk [] nand noisy bits ≡ pos 0xC000000 ∷ pos 0xC000000 ∷ pos 0x40000000 ∷ [])
     × (bitOf (phaseOf 1 key (cipherAt eight (ciphersOf eight ksk [] nand noisy) 2)) ≡ true)
-unfolding Q neg comp H centre sumTo tab scale plus minus before times total source rotated complemented extract after inner samplePhase half step maskAmount bodyAmount offset carried rowOuter rowField rowDigit drawn rowMasks rowNoise drawnRow generatedRow joined generated rowIndex rowPart digitField digitOf digitPoly digitWeight pairDigit part rowA rowB external cmuxOf lowPoly turned bitRows blindStep stepsTo startOf blindRotated rounding rounded fieldWeight switchField maskField used takes startWord switched dropped weightsOf summed rotatedSample byteField ways wayOf rotationsOf rotationSum samplesOf made ran cipherAt gateCipher ciphersTo centred wholeSum wholeTimes wholeTurn wholePhase wholePairPhase inside freshDrift shouldCarry bootstrappingError switchingError remainder broughtIn complementsDrift rowsDrift stepDrift rotationDrift extractedDrift switchedDrift gateDrift wayDrift wayBrought gateDriftOn gateBroughtOn freshTo driftsTo broughtTo outputDriftsTo allOf allInside
+unfolding Q neg comp H centre sumTo tab scale plus minus before times total source rotated complemented extract after inner phaseOf half step maskAmount bodyAmount offset carried rowOuter rowField rowDigit drawn rowMasks rowNoise drawnRow generatedRow joined generated rowIndex rowPart digitField digitOf digitPoly digitWeight pairDigit part rowA rowB external cmuxOf lowPoly turned bitRows blindStep stepsTo startOf blindRotated rounding rounded maskField usedRow maskRows switched dropped trivial summed rotatedSample byteField ways wayOf rotationsOf rotationSum samplesOf made ran cipherAt gateCipher ciphersTo centred wholeSum wholeTimes wholeTurn wholePhase wholePairPhase inside freshDrift shouldCarry bootstrappingError switchingError remainder broughtIn complementsDrift rowsDrift stepDrift rotationDrift extractedDrift switchedDrift gateDrift wayDrift wayBrought gateDriftOn gateBroughtOn freshTo driftsTo broughtTo outputDriftsTo allOf allInside
 nand-astray = (refl, refl, refl, refl)
 
 -- ---- five gates on junk
@@ -135,5 +134,5 @@ two-inputs = 0x2BADCAFE ∷ 0x9ABCDEF0 ∷ 0xBADCAFE5 ∷ 0x0DEFACED ∷ []
 pub five-gates : (driftsOf two key (1 ∷ 1 ∷ []) (junk 32 11) (junk 16 7) five two-inputs (1 ∷ 0 ∷ [])
     ≡ pos 1326388210 ∷ pos 1930624264 ∷ negℤ (pos 1829675921) ∷ pos 88461354 ∷ negℤ (pos 88461354) ∷ pos 1 ∷ pos 0 ∷ [])
     × (broughtOf two key (1 ∷ 1 ∷ []) (junk 32 11) (junk 16 7) five two-inputs (1 ∷ 0 ∷ []) ≡ pos 0x20000000 ∷ negℤ (pos 0x60000000) ∷ pos 0x20000000 ∷ [])
-unfolding Q neg comp H centre sumTo tab scale plus minus before times total source rotated complemented extract after inner samplePhase half step maskAmount bodyAmount offset carried rowOuter rowField rowDigit drawn rowMasks rowNoise drawnRow generatedRow joined generated rowIndex rowPart digitField digitOf digitPoly digitWeight pairDigit part rowA rowB external cmuxOf lowPoly turned bitRows blindStep stepsTo startOf blindRotated rounding rounded fieldWeight switchField maskField used takes startWord switched dropped weightsOf summed negative constantOf muxSum rotatedSample byteField ways wayOf rotationsOf rotationSum samplesOf made ran cipherAt gateCipher ciphersTo centred wholeSum wholeTimes wholeTurn wholePhase wholePairPhase inside freshDrift shouldCarry bootstrappingError switchingError remainder broughtIn complementsDrift rowsDrift stepDrift rotationDrift extractedDrift switchedDrift gateDrift muxDrift wayDrift wayBrought gateDriftOn gateBroughtOn freshTo driftsTo broughtTo outputDriftsTo allOf allInside
+unfolding Q neg comp H centre sumTo tab scale plus minus before times total source rotated complemented extract after inner phaseOf half step maskAmount bodyAmount offset carried rowOuter rowField rowDigit drawn rowMasks rowNoise drawnRow generatedRow joined generated rowIndex rowPart digitField digitOf digitPoly digitWeight pairDigit part rowA rowB external cmuxOf lowPoly turned bitRows blindStep stepsTo startOf blindRotated rounding rounded maskField usedRow maskRows switched dropped trivial summed negative constantOf muxSum rotatedSample byteField ways wayOf rotationsOf rotationSum samplesOf made ran cipherAt gateCipher ciphersTo centred wholeSum wholeTimes wholeTurn wholePhase wholePairPhase inside freshDrift shouldCarry bootstrappingError switchingError remainder broughtIn complementsDrift rowsDrift stepDrift rotationDrift extractedDrift switchedDrift gateDrift muxDrift wayDrift wayBrought gateDriftOn gateBroughtOn freshTo driftsTo broughtTo outputDriftsTo allOf allInside
 five-gates = (refl, refl)

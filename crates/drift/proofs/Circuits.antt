@@ -13,25 +13,26 @@ use lib.ListN.{length, getD, length-append, List·getD-append}
 use lib.Seq.{getD-at}
 use Rattle.ring.specs.Word.{Q, Q-pos, at, neg}
 use Rattle.ring.specs.Sums.{tab}
-use Rattle.ring.specs.Phase.{samplePhase}
+use Rattle.ring.specs.Phase.{phaseOf}
 use Rattle.ring.proofs.Tab.{at-tab, length-tab}
 use Rattle.params.specs.declared.Params.{Params}
 use Rattle.params.specs.Ranges.{InRange}
-use Rattle.tlwe.specs.Key.{binary, phaseOf}
+use Rattle.tlwe.specs.Key.{binary}
 use Rattle.tlwe.specs.Plain.{bitWord}
-use Rattle.circuit.specs.Kinds.{kindOf}
+use Rattle.kinds.specs.Kinds.{kindOf, bitMeaning}
 use Rattle.circuit.specs.Form.{inputs, gates, kindAt, operandAt}
-use Rattle.circuit.specs.Plain.{bitMeaning, gateBit, wiresTo, inputBits}
+use Rattle.circuit.specs.Plain.{gateBit, wiresTo, inputBits}
 use Rattle.circuit.specs.Valid.{Valid}
 use Rattle.circuit.proofs.Accept.{lt-or-ge}
 use Rattle.circuit.proofs.Wires.{length-wires}
-use Rattle.encrypted_run.specs.Ways.{wayOf, operandsOf, wayMeaning}
-use Rattle.encrypted_run.specs.Run.{cipherAt, gateCipher, ciphersTo}
-use Rattle.encrypted_run.proofs.Ciphers.{wire-within}
-use Rattle.encrypted_run.proofs.Operands.{ways-need}
-use Rattle.encrypted_run.proofs.Meanings.{ways-mean}
+use Rattle.ways.specs.Ways.{wayOf}
+use Rattle.ways.specs.Private.{operandsOf, wayMeaning}
+use Rattle.ways.specs.Ciphers.{cipherAt}
+use Rattle.encrypted_run.specs.Run.{gateCipher, ciphersTo}
+use Rattle.ways.proofs.Ciphers.{wire-within, cipher-front, cipher-next}
+use Rattle.ways.proofs.Needs.{ways-need}
+use Rattle.ways.proofs.Meanings.{ways-mean}
 use Rattle.encrypted_run.proofs.Wires.{gate-length, ciphers-length}
-use Rattle.encrypted_run.proofs.Laws.{cipher-front, cipher-next}
 use Rattle.drift.specs.Words.{freshWord}
 use Rattle.drift.specs.CircuitWords.{gateWordOn, gateBroughtWords, freshWords, driftWordsTo, broughtWordsTo, allWords}
 use Rattle.drift.proofs.Ways.{all-both, way-means}
@@ -48,7 +49,7 @@ unfolding neg Q
 fresh-sum f b l = omega arith
 
 pub fresh-carries : (p : Params) (key c : List ℕ) (v : Bool) → phaseOf (p .n) key c ≡ (bitWord v + freshWord p key c v) % Q
-unfolding freshWord samplePhase
+unfolding freshWord phaseOf
 fresh-carries p key c v = fresh-sum (phaseOf (p .n) key c) (bitWord v) (mod-lt _ Q-pos)
 
 module _ (p : Params) (r : InRange p) (key z : List ℕ) (binary-key : binary key ≡ true) (ksk bsk bs ins plain : List ℕ)

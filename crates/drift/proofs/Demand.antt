@@ -13,15 +13,16 @@ use Rattle.ring.specs.Centre.{H, centre, wordOf}
 use Rattle.ring.proofs.Tab.{at-tab}
 use Rattle.params.specs.declared.Params.{Params}
 use Rattle.params.specs.Ranges.{InRange}
-use Rattle.tlwe.specs.Key.{binary, phaseOf}
+use Rattle.tlwe.specs.Key.{binary}
 use Rattle.tlwe.specs.Plain.{bitWord}
 use Rattle.tlwe.specs.Decrypt.{bitOf}
-use Rattle.gates.specs.Kind.{sign}
+use Rattle.gate_sums.specs.Kind.{sign}
 use Rattle.circuit.specs.Form.{inputs, gates, outputs, wires, outputAt}
 use Rattle.circuit.specs.Plain.{wiresOf, outputBits}
 use Rattle.circuit.specs.Valid.{Valid}
 use Rattle.circuit.proofs.Laws.{output-wire as plain-output}
-use Rattle.encrypted_run.specs.Run.{cipherAt, ciphersOf, outputCiphers}
+use Rattle.ways.specs.Ciphers.{cipherAt}
+use Rattle.encrypted_run.specs.Run.{ciphersOf, outputCiphers}
 use Rattle.encrypted_run.proofs.Laws.{output-wire}
 use Rattle.drift.specs.Words.{insideWord}
 use Rattle.drift.specs.Circuit.{driftAt, driftsOf, broughtOf, outputDriftsTo, allOf, allInside}
@@ -33,6 +34,7 @@ use Rattle.drift.proofs.Circuits.{wires-mean}
 use Rattle.drift.proofs.Suffice.{is-bit}
 use Rattle.drift.proofs.Lists.{word-at, at-below, all-reckoned, drifts-reckoned, brought-reckoned, outputs-reckoned}
 use Rattle.ring.specs.Bit.{truth}
+use Rattle.ring.specs.Phase.{phaseOf}
 
 -- where all are inside, the one at a place is; past the end it is 0
 all-at : (ns : List ℕ) → allWords ns ≡ true → (i : ℕ) → insideWord (at ns i) ≡ true

@@ -10,7 +10,7 @@ use Rattle.ring.specs.Word.{Q, neg, comp, fieldOf as digitField}
 use Rattle.ring.specs.Sums.{sumTo, tab}
 use Rattle.ring.specs.Poly.{plus, minus, before, times, total}
 use Rattle.ring.specs.Turn.{source, rotated, complemented}
-use Rattle.ring.specs.Phase.{extract, after}
+use Rattle.ring.specs.Phase.{extract, after, trivial}
 use Rattle.ring.specs.Centre.{H, centre}
 use Rattle.params.specs.declared.Params.{Params}
 use Rattle.params.specs.Published.{numbers}
@@ -22,10 +22,10 @@ use Rattle.decomposition.specs.Pair.{pairDigit}
 use Rattle.trgsw.specs.External.{rowA, rowB, external, cmuxOf}
 use Rattle.trgsw.specs.Errors.{lowPoly}
 use Rattle.blind_rotation.specs.Blind.{turned, bitRows, blindStep, stepsTo, startOf, blindRotated}
-use Rattle.switching.specs.Switched.{rounding, rounded, fieldWeight, switchField, maskField}
+use Rattle.switching.specs.Switched.{rounding, rounded, maskField}
 use Rattle.switching.specs.Drift.{dropped}
-use Rattle.gates.specs.declared.Kind.the-variants.{Xor}
-use Rattle.gates.specs.Sum.{muxSum}
+use Rattle.gate_sums.specs.declared.Kind.the-variants.{Xor}
+use Rattle.gate_sums.specs.Sum.{muxSum}
 use Rattle.gates.specs.Gate.{rotatedSample}
 use Rattle.drift.specs.Polynomials.{centred, wholeSum, wholeTimes, wholeTurn, wholePhase, wholePairPhase}
 use Rattle.drift.specs.Whole.{inside, freshDrift, shouldCarry, bootstrappingError, switchingError, remainder, broughtIn, complementsDrift, rowsDrift, stepDrift, rotationDrift, extractedDrift, switchedDrift, gateDrift, muxDrift}
@@ -114,5 +114,5 @@ step-values = (refl, refl, refl, refl, refl, refl)
 pub gate-values : (switchedDrift small key ones (junk 32 11) (0x12345678 ∷ 0x9ABCDEF0 ∷ 0 ∷ []) ≡ negℤ (pos 514162075))
     × (gateDrift small key ones (junk 32 11) (junk 16 7) src ≡ pos 809288528)
     × (muxDrift small key ones (junk 32 11) (junk 16 7) src other ≡ negℤ (pos 1965194713))
-unfolding Q neg comp H centre sumTo tab plus minus before times total source rotated complemented extract after half step maskAmount bodyAmount offset rowIndex rowPart digitField digitOf digitPoly digitWeight pairDigit part rowA rowB external cmuxOf lowPoly turned bitRows blindStep stepsTo startOf blindRotated rounding rounded fieldWeight switchField maskField dropped muxSum rotatedSample centred wholeSum wholeTimes wholeTurn wholePhase wholePairPhase shouldCarry bootstrappingError switchingError complementsDrift rowsDrift stepDrift rotationDrift extractedDrift switchedDrift gateDrift muxDrift
+unfolding Q neg comp H centre sumTo tab plus minus before times total source rotated complemented extract after half step maskAmount bodyAmount offset rowIndex rowPart digitField digitOf digitPoly digitWeight pairDigit part rowA rowB external cmuxOf lowPoly turned bitRows blindStep stepsTo startOf blindRotated rounding rounded maskField dropped trivial muxSum rotatedSample centred wholeSum wholeTimes wholeTurn wholePhase wholePairPhase shouldCarry bootstrappingError switchingError complementsDrift rowsDrift stepDrift rotationDrift extractedDrift switchedDrift gateDrift muxDrift
 gate-values = (refl, refl, refl)

@@ -14,13 +14,14 @@ use Rattle.ring.specs.Centre.{H, centre, wordOf}
 use Rattle.ring.proofs.Tab.{tab-snoc}
 use Rattle.params.specs.declared.Params.{Params}
 use Rattle.tlwe.specs.Key.{binary}
-use Rattle.gates.specs.declared.Kind.the-variants.{And, AndNy}
-use Rattle.gates.specs.Sum.{summed}
+use Rattle.gate_sums.specs.declared.Kind.the-variants.{And, AndNy}
+use Rattle.gate_sums.specs.Sum.{summed}
 use Rattle.circuit.specs.Form.{inputs, gates, outputs, kindAt, operandAt, outputAt}
-use Rattle.encrypted_run.specs.declared.Way.{Way}
-use Rattle.encrypted_run.specs.declared.Way.the-variants.{Known, Negated, Gate, NegatedGate, Choice}
-use Rattle.encrypted_run.specs.Ways.{Operand, Rotation, wayOf, operand, rotationsOf, rotationSum}
-use Rattle.encrypted_run.specs.Run.{cipherAt, ciphersTo}
+use Rattle.ways.specs.declared.Way.{Way}
+use Rattle.ways.specs.declared.Way.the-variants.{Known, Negated, Gate, NegatedGate, Choice}
+use Rattle.ways.specs.Ways.{Rotation, wayOf, operand, rotationsOf, rotationSum}
+use Rattle.ways.specs.Ciphers.{cipherAt}
+use Rattle.encrypted_run.specs.Run.{ciphersTo}
 use Rattle.drift.specs.Whole.{inside, freshDrift, broughtIn, gateDrift}
 use Rattle.drift.specs.Words.{insideWord, freshWord, broughtWord}
 use Rattle.drift.specs.Circuit.{wayDrift, wayBrought, driftAt, gateDriftOn, gateBroughtOn, freshTo, driftsTo, broughtTo, driftsOf, outputDriftsTo, allOf, worse, worstFrom, worstOf, allInside}
@@ -119,10 +120,11 @@ worst-reckoned {xs} {ns} h =
 -- ---- one gate
 
 -- an operand's drift
-operand-word : (x : Operand) (da db dc : ℤ) → wordOf (operand x da db dc) ≡ operand x (wordOf da) (wordOf db) (wordOf dc)
-operand-word Operand.first da db dc = refl
-operand-word Operand.second da db dc = refl
-operand-word Operand.third da db dc = refl
+operand-word : (x : ℕ) (da db dc : ℤ) → wordOf (operand x da db dc) ≡ operand x (wordOf da) (wordOf db) (wordOf dc)
+operand-word zero da db dc = refl
+operand-word (suc zero) da db dc = refl
+operand-word (suc (suc zero)) da db dc = refl
+operand-word (suc (suc (suc x))) da db dc = refl
 
 constant-reckoned : (bit : Bool) → Reckoned (cond bit (pos 0) (pos 1)) (cond bit 0 1)
 unfolding Q centre H

@@ -8,23 +8,25 @@ use Prim.Native.Nat.{ℕ, _+_, _*_, _-_, _%_, _^_, _≤_, _<_}
 use native.Mathlib.Nat.{mod-lt, add-mod, mod-add-mod}
 use native.Mathlib.Omega.{arith}
 use Rattle.ring.specs.Word.{Q, Q-pos, at, neg, eighth}
+use Rattle.ring.specs.Poly.{plus}
 use Rattle.ring.proofs.Tab.{at-tab}
 use Rattle.params.specs.declared.Params.{Params}
 use Rattle.params.specs.Ranges.{InRange}
-use Rattle.tlwe.specs.Key.{binary, phaseOf}
+use Rattle.tlwe.specs.Key.{binary}
 use Rattle.tlwe.specs.Plain.{bitWord}
 use Rattle.tlwe.specs.Linear.{negative}
-use Rattle.gates.specs.declared.Kind.{Kind}
-use Rattle.gates.specs.declared.Kind.the-variants.{Or, And, AndNy}
-use Rattle.gates.specs.Kind.{meaning, sumOf, standsFor}
-use Rattle.gates.specs.Sum.{summed, muxSum}
+use Rattle.gate_sums.specs.declared.Kind.{Kind}
+use Rattle.gate_sums.specs.declared.Kind.the-variants.{Or, And, AndNy}
+use Rattle.gate_sums.specs.Kind.{meaning, sumOf, standsFor}
+use Rattle.gate_sums.specs.Sum.{summed, muxSum}
 use Rattle.gates.specs.Gate.{rotatedSample, bootstrapped, gated, muxed, muxedNaive}
 use Rattle.drift.specs.Words.{roundingWord, broughtWord, insideWord, extractedWord, gateWord, muxWord}
-use Rattle.gates.proofs.Tables.{table}
+use Rattle.gate_sums.proofs.Tables.{table}
 use Rattle.drift.specs.Short.{sideOf}
 use Rattle.drift.proofs.Round.{side-is}
 use Rattle.drift.proofs.Sides.{gate-side, mux-side}
 use Rattle.drift.proofs.Phases.{brought, not-drift}
+use Rattle.ring.specs.Phase.{phaseOf}
 
 either : (va vb vc : Bool) → meaning Or (va && vb) (not va && vc) ≡ cond va vb vc
 either true true vc = refl
@@ -40,7 +42,7 @@ chosen false vb true = refl
 chosen false vb false = refl
 
 pub summed-below : (p : Params) (kind : Kind) (a b : List ℕ) (i : ℕ) → i < p .n + 1 → at (summed p kind a b) i < Q
-unfolding summed
+unfolding summed plus
 summed-below p kind a b i l = rw (at-tab (p .n + 1) _ i l) (mod-lt _ Q-pos)
 
 module _ (p : Params) (r : InRange p) (key z : List ℕ) (binary-key : binary key ≡ true) (ksk bsk : List ℕ) where

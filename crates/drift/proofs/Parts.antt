@@ -26,15 +26,16 @@ use Rattle.decomposition.specs.Digit.{digitWeight, digitOf, digitPoly}
 use Rattle.decomposition.specs.Pair.{pairDigit}
 use Rattle.trgsw.specs.External.{rowA, rowB}
 use Rattle.trgsw.specs.Errors.{bootstrappingRowError, digitErrors, lowPoly}
-use Rattle.blind_rotation.specs.Blind.{bitRows, stepsTo, startOf, testPair}
-use Rattle.blind_rotation.specs.Drift.{complementDrift, stepMoved, driftStep, driftTo}
-use Rattle.switching.specs.Switched.{rounding, maskField, used}
-use Rattle.switching.specs.Drift.{dropped, usedErrors, roundedBy, switchingDrift}
+use Rattle.blind_rotation.specs.Blind.{bitRows, stepsTo, startOf}
+use Rattle.blind_rotation.specs.Drift.{complementWords, stepMoved, driftStep, driftTo}
+use Rattle.switching.specs.Switched.{rounding, maskField}
+use Rattle.switching.specs.Drift.{dropped, used, usedErrors, roundedBy, switchingDrift}
 use Rattle.drift.specs.Polynomials.{wholeSum, wholes, signeds, wholeTimes, wholeTurn, wholePairPhase}
 use Rattle.drift.specs.Whole.{shouldCarry, bootstrappingError, switchingError, remainder, complementsDrift, rowsDrift, stepDrift, rotationDrift, extractedDrift, switchedDrift}
 use Rattle.drift.specs.Words.{remainderWord, selectedWord, extractedWord}
 use Rattle.drift.proofs.Residues.{Is, is-pos, is-add, is-times, is-neg, is-minus, is-same, is-mod, is-sum, is-centre, is-centred, Are, are-wholes, are-tab, are-plus, are-minus, are-times, are-turned, are-total, is-phase, are-phase}
 use Rattle.ring.specs.Pair.{Pair}
+use Rattle.key.specs.Testvec.{testPair}
 
 -- ---- remainders
 
@@ -52,8 +53,8 @@ module _ (p : Params) (z : List ℕ) where
   abbrev N : ℕ
   N = size p
 
-  are-complements : (k : ℕ) → Are N (complementsDrift p z k) (complementDrift p z k)
-  unfolding complementsDrift complementDrift
+  are-complements : (k : ℕ) → Are N (complementsDrift p z k) (complementWords p z k)
+  unfolding complementsDrift complementWords
   are-complements k =
       are-minus N (wholeTimes N (wholes (complemented N k)) (wholes z)) (wholes (complemented N k)) (times N (complemented N k) z) (complemented N k)
       (are-times N (wholes (complemented N k)) (wholes z) (complemented N k) z (are-wholes N (complemented N k)) (are-wholes N z)) (are-wholes N (complemented N k))
@@ -117,9 +118,9 @@ module _ (p : Params) (z : List ℕ) where
       let t = wholeTurn N k f in
       let low = wholePairPhase N z (lowPoly p (y .a)) (lowPoly p (y .b)) in
       are-plus N (λ i. t i +ℤ complementsDrift p z k i -ℤ low i) (rowsDrift p z (bitRows p bsk i) 1 y)
-      (minus N (plus N (negating N k e) (complementDrift p z k)) (phase N z (lowPoly p (y .a)) (lowPoly p (y .b)))) (digitErrors p z (bitRows p bsk i) 1 y)
-      (are-minus N (λ i. t i +ℤ complementsDrift p z k i) low (plus N (negating N k e) (complementDrift p z k)) (phase N z (lowPoly p (y .a)) (lowPoly p (y .b)))
-      (are-plus N t (complementsDrift p z k) (negating N k e) (complementDrift p z k) (are-turned N k f e h) (are-complements k))
+      (minus N (plus N (negating N k e) (complementWords p z k)) (phase N z (lowPoly p (y .a)) (lowPoly p (y .b)))) (digitErrors p z (bitRows p bsk i) 1 y)
+      (are-minus N (λ i. t i +ℤ complementsDrift p z k i) low (plus N (negating N k e) (complementWords p z k)) (phase N z (lowPoly p (y .a)) (lowPoly p (y .b)))
+      (are-plus N t (complementsDrift p z k) (negating N k e) (complementWords p z k) (are-turned N k f e h) (are-complements k))
       (are-phase N z (lowPoly p (y .a)) (lowPoly p (y .b))))
       (are-rows (bitRows p bsk i) 1 y)
   are-stepped bsk i (suc (suc bit)) mask x f e b h = absurd (let q : ⊥ = omega arith in q)

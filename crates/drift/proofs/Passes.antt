@@ -16,9 +16,10 @@ use Rattle.params.specs.Ranges.{InRange}
 use Rattle.tlwe.specs.Key.{binary}
 use Rattle.circuit.specs.Form.{inputs, gates, kindAt, operandAt}
 use Rattle.circuit.specs.Valid.{Valid}
-use Rattle.encrypted_run.specs.Ways.{wayOf, rotationsOf, ran}
-use Rattle.encrypted_run.specs.Run.{cipherAt, gateCipher, ciphersTo, ciphersOf}
-use Rattle.encrypted_run.proofs.Operands.{known-way}
+use Rattle.ways.specs.Ways.{wayOf, rotationsOf, ran}
+use Rattle.ways.specs.Ciphers.{cipherAt}
+use Rattle.encrypted_run.specs.Run.{gateCipher, ciphersTo, ciphersOf}
+use Rattle.ways.proofs.Needs.{known-way}
 use Rattle.encrypted_run.proofs.Laws.{operand-before, constant, operand-wire, gate-wire}
 use Rattle.drift.specs.CircuitWords.{wayWord, wayBroughtWords, gateWordOn, gateBroughtWords, freshWords, driftWordsTo, broughtWordsTo}
 use Rattle.drift.specs.Short.{shortWord, shortGate, shortTo, shortBroughtTo}

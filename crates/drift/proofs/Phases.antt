@@ -10,24 +10,23 @@ use native.Mathlib.Omega.{arith}
 use lib.Dec.{eqb, leb, lit<}
 use borrow.Author.Tests.{eq-eqb, ne-eqb, leb-true}
 use Rattle.ring.specs.Word.{Q, at, neg, eighth}
-use Rattle.ring.specs.Sums.{sumTo, tab}
 use Rattle.ring.specs.Poly.{plus, scale}
-use Rattle.ring.specs.Phase.{inner, samplePhase}
-use Rattle.ring.proofs.Tab.{at-tab, tab-ext}
+use Rattle.ring.specs.Phase.{inner, phaseOf, trivial}
+use Rattle.ring.proofs.Tab.{at-tab}
 use Rattle.ring.proofs.SumLaws.{sum-ext, sum-zero}
 use Rattle.ring.proofs.Words.{mul-mod-r}
 use Rattle.params.specs.declared.Params.{Params}
 use Rattle.params.specs.Sizes.{size}
-use Rattle.tlwe.specs.Key.{binary, phaseOf}
+use Rattle.tlwe.specs.Key.{binary}
 use Rattle.tlwe.specs.Plain.{bitWord}
 use Rattle.tlwe.specs.Linear.{negative}
 use Rattle.tlwe.proofs.Phases.{phase-combine, phase-add, phase-neg}
-use Rattle.gates.specs.declared.Kind.{Kind}
-use Rattle.gates.specs.Kind.{weightsOf, sumOf}
-use Rattle.gates.specs.Sum.{lastWord, summed, muxSum, constantWord, constantOf}
+use Rattle.gate_sums.specs.declared.Kind.{Kind}
+use Rattle.gate_sums.specs.Kind.{sumOf}
+use Rattle.gate_sums.specs.Weights.{weightsOf}
+use Rattle.gate_sums.specs.Sum.{summed, muxSum, constantWord, constantOf}
 use Rattle.drift.specs.Words.{roundingWord, broughtWord}
-use Rattle.gates.proofs.Stores.{at-combined, at-plus}
-use Rattle.gates.proofs.Tables.{sum-words}
+use Rattle.gate_sums.proofs.Tables.{sum-words}
 
 -- ---- keys
 
@@ -42,51 +41,40 @@ key-bit [] e i = omega arith
 key-bit (k ∷ ks) e zero = leb-true k 1 (both (leb k 1) (binary ks) e .0)
 key-bit (k ∷ ks) e (suc i) = key-bit ks (both (leb k 1) (binary ks) e .1) i
 
--- ---- a word added to the last of a ciphertext is added to its phase
-
-last-moved : (v f c i : ℕ) → v ≡ f % Q → ((f + c) % Q + neg i) % Q ≡ ((v + neg i) % Q + c) % Q
-unfolding neg Q
-last-moved v f c i e = omega arith
-
-mask-kept : (v f : ℕ) → v ≡ f % Q → (f + 0) % Q ≡ v
-unfolding Q
-mask-kept v f e = omega arith
-
-module _ (d : ℕ) (key : List ℕ) (c : ℕ) (f : ℕ → ℕ) (l : List ℕ) (h : (i : ℕ) → i < d + 1 → at l i ≡ f i % Q) where
-  abbrev stored : List ℕ
-  stored = tab (d + 1) (λ i. (f i + lastWord d c i) % Q)
-
-  last-at : at stored d ≡ (f d + c) % Q
-  last-at = at-tab (d + 1) _ d (omega arith) ∙ ap (λ (b : Bool). (f d + cond b c 0) % Q) (eq-eqb d d refl)
-
-  mask-at : (i : ℕ) → i < d → at stored i ≡ at l i
-  mask-at i b = at-tab (d + 1) _ i (omega arith) ∙ ap (λ (b : Bool). (f i + cond b c 0) % Q) (ne-eqb i d (λ e. let q : ⊥ = omega arith in q)) ∙ mask-kept (at l i) (f i) (h i (omega arith))
-
-  pub last-phase : phaseOf d key stored ≡ (phaseOf d key l + c) % Q
-  unfolding samplePhase inner
-  last-phase =
-      ap₂ (λ (x y : ℕ). (x + neg y) % Q) last-at (sum-ext d _ (λ i. at l i * at key i) (λ i b. ap (λ (x : ℕ). x * at key i) (mask-at i b)))
-      ∙ last-moved (at l d) (f d) c (sumTo d (λ i. at l i * at key i)) (h d (omega arith))
-
 -- ---- the sums
+
+-- the phase of a trivial sample is its word
+trivial-phase : (d : ℕ) (key : List ℕ) (c : ℕ) → phaseOf d key (trivial d c) ≡ c % Q
+unfolding phaseOf inner trivial neg Q
+trivial-phase d key c =
+    ap₂ (λ (x y : ℕ). (x + (2 ^ 32 - y % 2 ^ 32)) % 2 ^ 32) (at-tab (d + 1) (λ i. cond (eqb i d) c 0) d (omega arith) ∙ ap (λ (b : Bool). cond b c 0) (eq-eqb d d refl))
+    (sum-ext d _ (λ i. 0) (λ i l. ap (λ (x : ℕ). x * at key i) (at-tab (d + 1) (λ i. cond (eqb i d) c 0) i (omega arith)
+    ∙ ap (λ (b : Bool). cond b c 0) (ne-eqb i d (λ e. let q : ⊥ = omega arith in q))) ∙ zero-mul (at key i)) ∙ sum-zero d)
+    ∙ (let q : (c + (2 ^ 32 - 0 % 2 ^ 32)) % 2 ^ 32 ≡ c % 2 ^ 32 = omega arith in q)
+
+word-added : (s c : ℕ) → (s + c % Q) % Q ≡ (s + c) % Q
+unfolding Q
+word-added s c = omega arith
+
+-- a trivial sample added to a ciphertext: its word is added to the phase
+added-phase : (d : ℕ) (key l : List ℕ) (c : ℕ) → phaseOf d key (plus (d + 1) l (trivial d c)) ≡ (phaseOf d key l + c) % Q
+added-phase d key l c = phase-add d key l (trivial d c) ∙ ap (λ (t : ℕ). (phaseOf d key l + t) % Q) (trivial-phase d key c) ∙ word-added (phaseOf d key l) c
 
 -- the sum of a kind
 pub sum-phase : (p : Params) (kind : Kind) (key a b : List ℕ) → phaseOf (p .n) key (summed p kind a b)
     ≡ ((weightsOf kind .a * phaseOf (p .n) key a + weightsOf kind .b * phaseOf (p .n) key b) % Q + weightsOf kind .added) % Q
-unfolding summed
+unfolding summed weightsOf
 sum-phase p kind key a b =
     let x = weightsOf kind .a in
     let y = weightsOf kind .b in
+    let c = weightsOf kind .added in
     let m = p .n + 1 in
-    last-phase (p .n) key (weightsOf kind .added) (λ i. x * at a i + y * at b i) (plus m (scale m x a) (scale m y b)) (λ i l. at-combined m x a y b i l)
-    ∙ ap (λ (t : ℕ). (t + weightsOf kind .added) % Q) (phase-combine (p .n) key x a y b)
+    added-phase (p .n) key (plus m (scale m x a) (scale m y b)) c ∙ ap (λ (t : ℕ). (t + c) % Q) (phase-combine (p .n) key x a y b)
 
 -- the sum of `mux`
 pub mux-phase : (p : Params) (z u v : List ℕ) → phaseOf (size p) z (muxSum p u v) ≡ ((phaseOf (size p) z u + phaseOf (size p) z v) % Q + eighth) % Q
 unfolding muxSum
-mux-phase p z u v =
-    last-phase (size p) z eighth (λ i. at u i + at v i) (plus (size p + 1) u v) (λ i l. at-plus (size p + 1) u v i l)
-    ∙ ap (λ (t : ℕ). (t + eighth) % Q) (phase-add (size p) z u v)
+mux-phase p z u v = added-phase (size p) z (plus (size p + 1) u v) eighth ∙ ap (λ (t : ℕ). (t + eighth) % Q) (phase-add (size p) z u v)
 
 -- drifts apart
 times-sum : (x A d : ℕ) → x * ((A + d) % Q) % Q ≡ (x * A + x * d) % Q
@@ -131,29 +119,12 @@ pub not-drift : (p : Params) (key a : List ℕ) (v : Bool) (d : ℕ) → phaseOf
     → phaseOf (p .n) key (negative (p .n + 1) a) ≡ (bitWord (not v) + neg d) % Q
 not-drift p key a v d e = phase-neg (p .n) key a a ∙ ap (λ (t : ℕ). neg t % Q) e ∙ negated-bit v d
 
--- zero masks
-zero-phase : (d : ℕ) (key : List ℕ) → phaseOf d key (tab (d + 1) (λ i. 0)) ≡ 0
-unfolding samplePhase inner neg Q
-zero-phase d key =
-    ap₂ (λ (x y : ℕ). (x + (2 ^ 32 - y % 2 ^ 32)) % 2 ^ 32) (at-tab (d + 1) (λ i. 0) d (omega arith))
-    (sum-ext d _ (λ i. 0) (λ i l. ap (λ (x : ℕ). x * at key i) (at-tab (d + 1) (λ i. 0) i (omega arith)) ∙ zero-mul (at key i)) ∙ sum-zero d)
-
-constant-fits : (v : Bool) (b : Bool) → cond b (constantWord v) 0 ≡ (0 + cond b (constantWord v) 0) % Q
-unfolding Q
-constant-fits true true = refl
-constant-fits true false = refl
-constant-fits false true = refl
-constant-fits false false = refl
-
-constant-word : (v : Bool) → (0 + constantWord v) % Q ≡ (bitWord v + cond v 0 1) % Q
+constant-word : (v : Bool) → constantWord v % Q ≡ (bitWord v + cond v 0 1) % Q
 unfolding Q
 constant-word true = refl
 constant-word false = refl
 
 -- the constants: true has the drift 0, false the drift 1
 pub constant-drift : (p : Params) (key : List ℕ) (v : Bool) → phaseOf (p .n) key (constantOf p v) ≡ (bitWord v + cond v 0 1) % Q
-unfolding constantOf Q
-constant-drift p key v =
-    ap (phaseOf (p .n) key) (tab-ext (p .n + 1) _ (λ i. (0 + lastWord (p .n) (constantWord v) i) % Q) (λ i l. constant-fits v (eqb i (p .n))))
-    ∙ last-phase (p .n) key (constantWord v) (λ i. 0) (tab (p .n + 1) (λ i. 0)) (λ i l. at-tab (p .n + 1) (λ i. 0) i l)
-    ∙ ap (λ (t : ℕ). (t + constantWord v) % Q) (zero-phase (p .n) key) ∙ constant-word v
+unfolding constantOf
+constant-drift p key v = trivial-phase (p .n) key (constantWord v) ∙ constant-word v

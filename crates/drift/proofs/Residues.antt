@@ -13,7 +13,7 @@ use Rattle.ring.specs.Word.{Q, Q-pos, at, neg}
 use Rattle.ring.specs.Sums.{sumTo, tab}
 use Rattle.ring.specs.Poly.{plus, minus, before, times, total}
 use Rattle.ring.specs.Turn.{source, negating}
-use Rattle.ring.specs.Phase.{phase, inner, samplePhase}
+use Rattle.ring.specs.Phase.{phase, inner, phaseOf}
 use Rattle.ring.specs.Centre.{centre, wordOf}
 use Rattle.ring.proofs.Word.{word-add, word-mul, word-mod}
 use Rattle.ring.proofs.Whole.{Wholes, map-neg, red, red-add, red-mul, reduce}
@@ -21,7 +21,6 @@ use Rattle.ring.proofs.Value.{𝓦, w, w-neg, by-test}
 use Rattle.ring.proofs.Extract.{w-injective}
 use Rattle.ring.proofs.Centre.{r, centre-red}
 use Rattle.ring.proofs.Tab.{at-tab}
-use Rattle.tlwe.specs.Key.{phaseOf}
 use Rattle.drift.specs.Polynomials.{centred, wholeSum, wholes, wholeTimes, wholeTurn, wholePhase, wholePairPhase}
 
 -- ---- numbers
@@ -140,7 +139,7 @@ are-total N (suc n) f g h =
 -- ---- phases
 
 pub is-phase : (n : ℕ) (key c : List ℕ) → Is (wholePhase n key c) (phaseOf n key c)
-unfolding wholePhase samplePhase inner
+unfolding wholePhase phaseOf inner
 is-phase n key c = is-mod (is-minus (is-pos (at c n)) (is-sum n _ _ (λ i l. is-times (is-pos (at c i)) (is-pos (at key i)))))
 
 pub are-phase : (N : ℕ) (z a b : List ℕ) → Are N (wholePairPhase N z a b) (phase N z a b)

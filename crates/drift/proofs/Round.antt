@@ -13,7 +13,7 @@ use lib.Dec.{ltb, eqb}
 use borrow.Author.Tests.{ltb-true, eqb-true, ne-eqb, lt-ltb, le-ltb}
 use Rattle.ring.specs.Word.{Q, Q-pos, at, neg, eighth}
 use Rattle.ring.specs.Sums.{sumTo}
-use Rattle.ring.specs.Phase.{inner}
+use Rattle.ring.specs.Phase.{inner, phaseOf}
 use Rattle.ring.specs.Turn.{source}
 use Rattle.ring.specs.Centre.{H}
 use Rattle.ring.proofs.SumLaws.{sum-mod, sum-add, sum-mul}
@@ -24,18 +24,16 @@ use Rattle.params.specs.Sizes.{size}
 use Rattle.rotation.specs.Amount.{half, step, maskAmount, bodyAmount}
 use Rattle.rotation.proofs.Amounts.{turn-steps, step-halves, half-pos, body-steps}
 use Rattle.params.proofs.Ranges.{size-from}
-use Rattle.ring.specs.Phase.{samplePhase}
 use Rattle.ring.specs.Turn.{negating}
 use Rattle.ring.proofs.Tab.{at-tab}
 use Rattle.ring.proofs.Centre.{Q-is}
-use Rattle.key.specs.Testvec.{testB}
-use Rattle.tlwe.specs.Key.{phaseOf}
+use Rattle.key.specs.Testvec.{testPair}
 use Rattle.tlwe.specs.Plain.{bitWord}
 use Rattle.tlwe.specs.Decrypt.{bitOf}
 use Rattle.tlwe.proofs.Inverse.{inside-cases, bit-back}
 use Rattle.blind_rotation.specs.Drift.{turnTo}
-use Rattle.gates.specs.Kind.{standsFor}
-use Rattle.drift.proofs.Track.{turn-sum}
+use Rattle.gate_sums.specs.Kind.{standsFor}
+use Rattle.blind_rotation.proofs.Start.{turn-sum}
 use Rattle.drift.specs.Short.{sideOf}
 use Rattle.drift.specs.Words.{remainderWord, selectedWord, roundingWord, insideWord}
 
@@ -172,7 +170,7 @@ module _ (p : Params) (r : InRange p) where
     -- all amounts turned, in steps, cancel with the sum's phase and what rounding brings in
     turns-cancel : at src (p .n) < Q
         → ((bodyAmount p (at src (p .n)) + sumTo (p .n) (λ j. at key j * maskAmount p (at src j))) * step p + (phaseOf (p .n) key src + roundingWord p key src)) % Q ≡ 0
-    unfolding roundingWord samplePhase selectedWord
+    unfolding roundingWord phaseOf selectedWord
     turns-cancel l =
         let B = bodyAmount p (at src (p .n)) in
         let M = sumTo (p .n) (λ j. at key j * maskAmount p (at src j)) in

@@ -9,20 +9,21 @@ use native.Mathlib.Omega.{arith}
 use Rattle.ring.specs.Word.{Q, Q-pos, neg, eighth}
 use Rattle.params.specs.declared.Params.{Params}
 use Rattle.params.specs.Ranges.{InRange}
-use Rattle.tlwe.specs.Key.{binary, phaseOf}
+use Rattle.tlwe.specs.Key.{binary}
 use Rattle.tlwe.specs.Plain.{bitWord}
 use Rattle.tlwe.proofs.Phases.{phase-neg}
-use Rattle.gates.specs.declared.Kind.the-variants.{And, AndNy}
-use Rattle.gates.specs.Sum.{summed}
+use Rattle.gate_sums.specs.declared.Kind.the-variants.{And, AndNy}
+use Rattle.gate_sums.specs.Sum.{summed}
 use Rattle.gates.specs.Gate.{gated}
-use Rattle.encrypted_run.specs.declared.Way.{Way}
-use Rattle.encrypted_run.specs.declared.Way.the-variants.{Known, Negated, Gate, NegatedGate, Choice}
-use Rattle.encrypted_run.specs.Ways.{ran}
-use Rattle.encrypted_run.proofs.Made.{ran-gate, ran-negated-gate, ran-choice}
+use Rattle.ways.specs.declared.Way.{Way}
+use Rattle.ways.specs.declared.Way.the-variants.{Known, Negated, Gate, NegatedGate, Choice}
+use Rattle.ways.specs.Ways.{ran}
+use Rattle.ways.proofs.Made.{ran-gate, ran-negated-gate, ran-choice}
 use Rattle.drift.specs.Words.{gateWord, muxWord}
 use Rattle.drift.specs.CircuitWords.{wayWord}
 use Rattle.drift.specs.Short.{sideOf, carriedWord, shortWord}
 use Rattle.drift.proofs.Sides.{gate-side, mux-side}
+use Rattle.ring.specs.Phase.{phaseOf}
 
 -- a phase less what it carries
 less : (f b d : ℕ) → d < Q → f ≡ (b + d) % Q → (f + neg b) % Q ≡ d

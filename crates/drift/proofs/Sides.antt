@@ -10,25 +10,25 @@ use native.Mathlib.Omega.{arith}
 use lib.Dec.{ltb, ltb→lt, nltb→le}
 use Rattle.ring.specs.Word.{Q, at, neg, eighth}
 use Rattle.ring.specs.Turn.{source, negating}
-use Rattle.ring.specs.Phase.{after}
+use Rattle.ring.specs.Phase.{after, phaseOf}
 use Rattle.ring.proofs.Tab.{at-tab}
 use Rattle.ring.proofs.Value.{by-test}
 use Rattle.params.specs.declared.Params.{Params}
 use Rattle.params.specs.Ranges.{InRange}
 use Rattle.params.specs.Sizes.{size}
 use Rattle.params.proofs.Ranges.{size-from}
-use Rattle.key.specs.Testvec.{testB}
-use Rattle.tlwe.specs.Key.{binary, phaseOf}
+use Rattle.key.specs.Testvec.{testPair}
+use Rattle.tlwe.specs.Key.{binary}
 use Rattle.tlwe.specs.Plain.{bitWord}
 use Rattle.trlwe.proofs.Pairs.{phase-extracted}
-use Rattle.blind_rotation.specs.Blind.{blindRotated, testPair}
+use Rattle.blind_rotation.specs.Blind.{blindRotated}
 use Rattle.blind_rotation.specs.Drift.{turnTo, driftTo}
 use Rattle.switching.specs.Drift.{switchingDrift}
 use Rattle.switching.proofs.Phase.{switching-phase}
-use Rattle.gates.specs.declared.Kind.the-variants.{And, AndNy}
-use Rattle.gates.specs.Sum.{summed, muxSum}
+use Rattle.gate_sums.specs.declared.Kind.the-variants.{And, AndNy}
+use Rattle.gate_sums.specs.Sum.{summed, muxSum}
 use Rattle.gates.specs.Gate.{rotatedSample, bootstrapped, muxed}
-use Rattle.gates.proofs.Stores.{at-plus}
+use Rattle.gate_sums.proofs.Sums.{at-plus}
 use Rattle.drift.specs.Short.{sideOf}
 use Rattle.drift.specs.Words.{extractedWord, gateWord, muxWord}
 use Rattle.drift.proofs.Track.{tracked}
@@ -51,13 +51,13 @@ join : (x y d e s c : ℕ) → ((((x + d) % Q + (y + e) % Q) % Q + c) % Q + s) %
 join x y d e s c = flatten (x + d) (y + e) c s ∙ gather x y d e c s
 
 -- the front of the turned test vector, by the side
-side-front : (p : Params) (key src : List ℕ) → at (negating (size p) (turnTo p key src (p .n)) (testB p)) 0 ≡ bitWord (sideOf p key src)
+side-front : (p : Params) (key src : List ℕ) → at (negating (size p) (turnTo p key src (p .n)) (testPair p .b)) 0 ≡ bitWord (sideOf p key src)
 unfolding sideOf negating source neg Q
 side-front p key src =
     let N = size p in
     let S = source N (turnTo p key src (p .n)) 0 in
     at-tab N _ 0 (size-from p)
-    ∙ by-test (ltb S N) (λ (c : Bool). cond c (at (testB p) S) (neg (at (testB p) (S - N)) % Q) ≡ bitWord c)
+    ∙ by-test (ltb S N) (λ (c : Bool). cond c (at (testPair p .b) S) (neg (at (testPair p .b) (S - N)) % Q) ≡ bitWord c)
     (λ t. at-tab N (λ i. 2 ^ 29) S (ltb→lt S N t))
     (λ t. let u : N ≤ S = nltb→le S N t in
     let b : S < N + N = mod-lt _ (let q : 0 < N + N = omega (arith, size-from p) in q) in

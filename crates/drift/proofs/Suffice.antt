@@ -13,9 +13,10 @@ use Rattle.ring.specs.Centre.{centre, wordOf}
 use Rattle.params.specs.declared.Params.{Params}
 use Rattle.tlwe.specs.Key.{binary}
 use Rattle.tlwe.specs.Plain.{bitWord}
-use Rattle.gates.specs.declared.Kind.{Kind}
-use Rattle.gates.specs.Kind.{rowOf, weightsOf, sign}
-use Rattle.gates.specs.Sum.{muxSum}
+use Rattle.gate_sums.specs.declared.Kind.{Kind}
+use Rattle.gate_sums.specs.Kind.{rowOf, sign}
+use Rattle.gate_sums.specs.Weights.{weightsOf}
+use Rattle.gate_sums.specs.Sum.{muxSum}
 use Rattle.gates.specs.Gate.{rotatedSample}
 use Rattle.drift.specs.Polynomials.{centred}
 use Rattle.drift.specs.Whole.{inside, freshDrift, broughtIn, extractedDrift, gateDrift, muxDrift}

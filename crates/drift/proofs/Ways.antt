@@ -11,25 +11,27 @@ use lib.Dec.{lit<}
 use Rattle.ring.specs.Word.{Q, Q-pos, neg, eighth}
 use Rattle.params.specs.declared.Params.{Params}
 use Rattle.params.specs.Ranges.{InRange}
-use Rattle.tlwe.specs.Key.{binary, phaseOf}
+use Rattle.tlwe.specs.Key.{binary}
 use Rattle.tlwe.specs.Plain.{bitWord}
 use Rattle.tlwe.specs.Linear.{negative}
 use Rattle.tlwe.proofs.Phases.{phase-neg}
-use Rattle.gates.specs.declared.Kind.{Kind}
-use Rattle.gates.specs.declared.Kind.the-variants.{And, AndNy}
-use Rattle.gates.specs.Kind.{meaning}
-use Rattle.gates.specs.Sum.{summed}
+use Rattle.gate_sums.specs.declared.Kind.{Kind}
+use Rattle.gate_sums.specs.declared.Kind.the-variants.{And, AndNy}
+use Rattle.gate_sums.specs.Kind.{meaning}
+use Rattle.gate_sums.specs.Sum.{summed}
 use Rattle.gates.specs.Gate.{gated}
-use Rattle.encrypted_run.specs.declared.Way.{Way}
-use Rattle.encrypted_run.specs.declared.Way.the-variants.{Known, Negated, Gate, NegatedGate, Choice}
-use Rattle.encrypted_run.specs.Ways.{rotationsOf, rotationSum, operandsOf, wayMeaning, ran}
-use Rattle.encrypted_run.proofs.Made.{ran-known, ran-negated, ran-gate, ran-negated-gate, ran-choice}
+use Rattle.ways.specs.declared.Way.{Way}
+use Rattle.ways.specs.declared.Way.the-variants.{Known, Negated, Gate, NegatedGate, Choice}
+use Rattle.ways.specs.Ways.{rotationsOf, rotationSum, ran}
+use Rattle.ways.specs.Private.{operandsOf, wayMeaning}
+use Rattle.ways.proofs.Made.{ran-known, ran-negated, ran-gate, ran-negated-gate, ran-choice}
 use Rattle.drift.specs.Words.{broughtWord, insideWord, gateWord, muxWord}
 use Rattle.drift.specs.CircuitWords.{wayWord, wayBroughtWords, allWords}
 use Rattle.drift.specs.Short.{sideOf, carriedWord, shortWord}
 use Rattle.drift.proofs.Phases.{both, not-drift, constant-drift}
 use Rattle.drift.proofs.Sides.{gate-side, mux-side}
 use Rattle.drift.proofs.Meaning.{gate-means, mux-means}
+use Rattle.ring.specs.Phase.{phaseOf}
 
 -- ---- all of a list are inside
 

@@ -8,13 +8,14 @@ use lib.IntN.{ℤ, pos, negℤ, natAbs}
 use lib.ListN.{getD}
 use Rattle.ring.specs.Word.{at}
 use Rattle.params.specs.declared.Params.{Params}
-use Rattle.gates.specs.declared.Kind.the-variants.{And, AndNy}
-use Rattle.gates.specs.Sum.{summed}
+use Rattle.gate_sums.specs.declared.Kind.the-variants.{And, AndNy}
+use Rattle.gate_sums.specs.Sum.{summed}
 use Rattle.circuit.specs.Form.{inputs, gates, outputs, kindAt, operandAt, outputAt}
-use Rattle.encrypted_run.specs.declared.Way.{Way}
-use Rattle.encrypted_run.specs.declared.Way.the-variants.{Known, Negated, Gate, NegatedGate, Choice}
-use Rattle.encrypted_run.specs.Ways.{wayOf, operand, rotationsOf, rotationSum}
-use Rattle.encrypted_run.specs.Run.{cipherAt, ciphersTo}
+use Rattle.ways.specs.declared.Way.{Way}
+use Rattle.ways.specs.declared.Way.the-variants.{Known, Negated, Gate, NegatedGate, Choice}
+use Rattle.ways.specs.Ways.{wayOf, operand, rotationsOf, rotationSum}
+use Rattle.ways.specs.Ciphers.{cipherAt}
+use Rattle.encrypted_run.specs.Run.{ciphersTo}
 use Rattle.drift.specs.Polynomials.{centred}
 use Rattle.drift.specs.Whole.{inside, freshDrift, broughtIn, gateDrift, muxDrift}
 use Rattle.ring.specs.Bit.{truth}

@@ -8,17 +8,17 @@ use Rattle.ring.specs.Word.{Q, at, neg, eighth}
 use Rattle.ring.specs.Turn.{source}
 use Rattle.params.specs.declared.Params.{Params}
 use Rattle.params.specs.Sizes.{size}
-use Rattle.tlwe.specs.Key.{phaseOf}
 use Rattle.tlwe.specs.Plain.{bitWord}
 use Rattle.blind_rotation.specs.Drift.{turnTo}
-use Rattle.gates.specs.declared.Kind.the-variants.{And, AndNy}
-use Rattle.gates.specs.Sum.{summed}
+use Rattle.gate_sums.specs.declared.Kind.the-variants.{And, AndNy}
+use Rattle.gate_sums.specs.Sum.{summed}
 use Rattle.circuit.specs.Form.{inputs, kindAt, operandAt}
-use Rattle.encrypted_run.specs.declared.Way.{Way}
-use Rattle.encrypted_run.specs.declared.Way.the-variants.{Known, Negated, Gate, NegatedGate, Choice}
-use Rattle.encrypted_run.specs.Ways.{wayOf}
-use Rattle.encrypted_run.specs.Run.{cipherAt}
+use Rattle.ways.specs.declared.Way.{Way}
+use Rattle.ways.specs.declared.Way.the-variants.{Known, Negated, Gate, NegatedGate, Choice}
+use Rattle.ways.specs.Ways.{wayOf}
+use Rattle.ways.specs.Ciphers.{cipherAt}
 use Rattle.drift.specs.CircuitWords.{gateBroughtWords}
+use Rattle.ring.specs.Phase.{phaseOf}
 
 -- Does the rounded phase of the sum src, in steps modulo 2N, fall below N? It is the place that the turns bring to the front.
 unfoldable pub sideOf : Params → List ℕ → List ℕ → Bool

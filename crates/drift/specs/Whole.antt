@@ -17,16 +17,17 @@ use Rattle.decomposition.specs.Digit.{digitWeight}
 use Rattle.decomposition.specs.Pair.{pairDigit}
 use Rattle.trgsw.specs.External.{rowA, rowB}
 use Rattle.trgsw.specs.Errors.{lowPoly}
-use Rattle.blind_rotation.specs.Blind.{bitRows, stepsTo, startOf, testPair}
+use Rattle.blind_rotation.specs.Blind.{bitRows, stepsTo, startOf}
 use Rattle.blind_rotation.specs.Drift.{stepMoved}
 use Rattle.switching.specs.Switched.{rounding, maskField}
 use Rattle.switching.specs.Drift.{dropped}
-use Rattle.gates.specs.declared.Kind.{Kind}
-use Rattle.gates.specs.Kind.{rowOf, sign}
-use Rattle.gates.specs.Sum.{muxSum}
+use Rattle.gate_sums.specs.declared.Kind.{Kind}
+use Rattle.gate_sums.specs.Kind.{rowOf, sign}
+use Rattle.gate_sums.specs.Sum.{muxSum}
 use Rattle.gates.specs.Gate.{rotatedSample}
 use Rattle.drift.specs.Polynomials.{centred, wholeSum, wholes, signeds, wholeTimes, wholeTurn, wholePhase, wholePairPhase}
 use Rattle.ring.specs.Pair.{Pair}
+use Rattle.key.specs.Testvec.{testPair}
 
 -- 'Inside means absolute value below 2^29.'
 unfoldable pub inside : ℤ → Bool

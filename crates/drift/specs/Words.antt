@@ -8,20 +8,19 @@ use lib.Dec.{ltb}
 use lib.IntN.{natAbs}
 use Rattle.ring.specs.Word.{Q, at, neg, eighth}
 use Rattle.ring.specs.Sums.{sumTo}
-use Rattle.ring.specs.Phase.{after}
+use Rattle.ring.specs.Phase.{after, phaseOf}
 use Rattle.ring.specs.Centre.{centre}
 use Rattle.params.specs.declared.Params.{Params}
 use Rattle.params.specs.Sizes.{size}
-use Rattle.tlwe.specs.Key.{phaseOf}
 use Rattle.tlwe.specs.Plain.{bitWord}
 use Rattle.rotation.specs.Amount.{half, step}
-use Rattle.blind_rotation.specs.Blind.{testPair}
 use Rattle.blind_rotation.specs.Drift.{driftTo}
 use Rattle.switching.specs.Drift.{switchingDrift}
-use Rattle.gates.specs.declared.Kind.{Kind}
-use Rattle.gates.specs.Kind.{weightsOf}
-use Rattle.gates.specs.Sum.{muxSum}
+use Rattle.gate_sums.specs.declared.Kind.{Kind}
+use Rattle.gate_sums.specs.Weights.{weightsOf}
+use Rattle.gate_sums.specs.Sum.{muxSum}
 use Rattle.gates.specs.Gate.{rotatedSample}
+use Rattle.key.specs.Testvec.{testPair}
 
 -- ---- what is brought in
 

@@ -10,7 +10,7 @@ use Rattle.params.specs.declared.Params.{Params}
 use Rattle.params.specs.declared.Answer.{Answer}
 use Rattle.params.proofs.Answers.{when-done}
 use Rattle.circuit.specs.Form.{gates}
-use Rattle.encrypted_run.specs.Refusals.{StepGood, RunGood as EncryptedGood}
+use Rattle.encrypted_run.specs.Private.{StepGood, RunGood as EncryptedGood}
 use Rattle.encrypted_run.specs.Run.{stepped, stepAfter}
 use Rattle.encrypted_run.proofs.Checks.{step-done}
 use Rattle.drift_run.specs.Private.{DriftGateGood, DriftRunGood}

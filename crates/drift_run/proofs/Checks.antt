@@ -1,26 +1,32 @@
 -- The refusals taken apart: what each answer of 0 tells, and that good arguments are not refused.
 -- Assumes nothing.
-use mathlib.Core.Path.{_≡_, ap, _∙_}
-use mathlib.Core.Bool.{true}
-use mathlib.Core.List.{List}
+use mathlib.Core.Path.{_≡_, refl}
+use mathlib.Core.Bool.{Bool, true, false}
+use mathlib.Core.List.{List, [], _∷_}
 use Prim.Native.Nat.{ℕ, _+_, _*_}
-use borrow.Author.Tests.{eqb-true, eq-eqb}
-use lib.Dec.{lit<}
+use lib.Dec.{eqb}
 use lib.ListN.{length}
 use Rattle.params.specs.declared.Params.{Params}
-use Rattle.params.specs.declared.Answer.{Answer}
-use Rattle.params.specs.Refusal.{answer}
-use Rattle.params.specs.Ranges.{paramsNumber}
+use Rattle.params.specs.Refusal.{check, answer}
 use Rattle.params.specs.Sizes.{size, switchingWords, bootstrappingWords}
-use Rattle.params.proofs.Answers.{passed, when-done}
-use Rattle.tlwe.specs.Key.{binary}
-use Rattle.circuit.specs.Form.{inputs, outputs, wires, answerOf, orElse}
+use Rattle.refusals.specs.Table.{Check, is, holds}
+use Rattle.refusals.proofs.Table.{good, done, facts, none}
+use Rattle.tlwe.specs.Key.{binary, keyNumber}
+use Rattle.circuit.specs.Form.{inputs, outputs, wires}
 use Rattle.circuit.specs.Valid.{Valid}
-use Rattle.circuit.proofs.Accept.{accepted, not-refused, both-done}
+use Rattle.encrypted_run.proofs.Checks.{around-good, around-done}
 use Rattle.drift_run.specs.Refusals.{secretsNumber, driftWiresNumber, lentNumber, driftAnswer, driftGateAnswer}
 use Rattle.drift_run.specs.Private.{Secret, DriftGateGood, DriftRunGood}
 
 -- ---- the keys
+
+-- the test of a secret key, as the code makes it
+pub key-test : (key : List ℕ) {k : ℕ} → k ≡ keyNumber key → eqb k 0 ≡ binary key
+key-test key e = rw e (go (binary key))
+  where
+    go : (b : Bool) → eqb (check b 4 0) 0 ≡ b
+    go true = refl
+    go false = refl
 
 -- what holds of the keys that are not refused
 pub record SecretsGood (p : Params) (lk ls : ℕ) (key z : List ℕ) : Type 0 where
@@ -30,79 +36,62 @@ pub record SecretsGood (p : Params) (lk ls : ℕ) (key z : List ℕ) : Type 0 wh
   pub long : length z ≡ size p
   pub bits : binary z ≡ true
 
-pub secrets-good : (p : Params) (lk ls : ℕ) (key z : List ℕ) → secretsNumber p lk ls key z ≡ 0 → SecretsGood p lk ls key z
-unfolding secretsNumber
-secrets-good p lk ls key z e =
-    let s1 = passed _ 1 _ (lit< tt) e in
-    let s2 = passed _ 2 _ (lit< tt) (s1 .1) in
-    let s3 = passed _ 2 _ (lit< tt) (s2 .1) in
-    let s4 = passed _ 2 _ (lit< tt) (s3 .1) in
-    let s5 = passed _ 2 _ (lit< tt) (s4 .1) in
-    let s6 = passed _ 4 _ (lit< tt) (s5 .1) in
-    let s7 = passed _ 4 _ (lit< tt) (s6 .1) in
-    record {
-      secret = record { good = eqb-true _ _ (s1 .0); long = eqb-true _ _ (s4 .0); bits = s6 .0 };
-      switching = eqb-true _ _ (s2 .0);
-      bootstrapping = eqb-true _ _ (s3 .0);
-      long = eqb-true _ _ (s5 .0);
-      bits = s7 .0;
-    }
+module _ (p : Params) (lk ls : ℕ) (key z : List ℕ) where
+  abbrev secrets : List Check
+  secrets = is lk (switchingWords p) 2 ∷ is ls (bootstrappingWords p) 2 ∷ is (length key) (p .n) 2 ∷ is (length z) (size p) 2 ∷ holds (binary key) 4 ∷ holds (binary z) 4 ∷ []
 
-secrets-done : (p : Params) (lk ls : ℕ) (key z : List ℕ) → SecretsGood p lk ls key z → secretsNumber p lk ls key z ≡ 0
-unfolding secretsNumber
-secrets-done p lk ls key z k =
-    simp (
-      eq-eqb (paramsNumber p) 0 (k .secret .good),
-      eq-eqb lk (switchingWords p) (k .switching),
-      eq-eqb ls (bootstrappingWords p) (k .bootstrapping),
-      eq-eqb (length key) (p .n) (k .secret .long),
-      eq-eqb (length z) (size p) (k .long),
-      k .secret .bits,
-      k .bits,
-    )
+  pub secrets-good : secretsNumber p lk ls key z ≡ 0 → SecretsGood p lk ls key z
+  unfolding secretsNumber
+  secrets-good e =
+      let f = good p secrets refl e in
+      record {
+        secret = record { good = f .0; long = f .1 .1 .1 .0; bits = f .1 .1 .1 .1 .1 .0 };
+        switching = f .1 .0;
+        bootstrapping = f .1 .1 .0;
+        long = f .1 .1 .1 .1 .0;
+        bits = f .1 .1 .1 .1 .1 .1 .0;
+      }
 
--- ---- the wires
-
-wires-good : (p : Params) (bs : List ℕ) (lw ld : ℕ) → driftWiresNumber p bs lw ld ≡ 0 → (lw ≡ wires bs * (p .n + 1)) × (ld ≡ wires bs)
-unfolding driftWiresNumber
-wires-good p bs lw ld e =
-    let s1 = passed _ 2 _ (lit< tt) e in
-    let s2 = passed _ 2 _ (lit< tt) (s1 .1) in
-    (eqb-true _ _ (s1 .0), eqb-true _ _ (s2 .0))
+  secrets-done : SecretsGood p lk ls key z → secretsNumber p lk ls key z ≡ 0
+  unfolding secretsNumber
+  secrets-done k = done p secrets (k .secret .good, (k .switching, (k .bootstrapping, (k .secret .long, (k .long, (k .secret .bits, (k .bits, tt)))))))
 
 -- ---- the answers
 
 module _ (p : Params) (lk ls : ℕ) (key z bs : List ℕ) where
-  together : (lw ld : ℕ) → secretsNumber p lk ls key z ≡ 0 → Valid bs → driftWiresNumber p bs lw ld ≡ 0 → DriftGateGood p lk ls key bs lw ld
-  together lw ld e v f =
+  -- the lengths that depend on the circuit: those of one gate, and of a run
+  abbrev gateLengths : ℕ → ℕ → List Check
+  gateLengths lw ld = is lw (wires bs * (p .n + 1)) 2 ∷ is ld (wires bs) 2 ∷ []
+
+  abbrev runLengths : ℕ → ℕ → ℕ → ℕ → ℕ → List Check
+  runLengths li lp lw lo ld = is li (inputs bs * (p .n + 1)) 2 ∷ is lp (inputs bs) 2 ∷ is lo (outputs bs * (p .n + 1)) 2 ∷ gateLengths lw ld
+
+  together : (lw ld : ℕ) → secretsNumber p lk ls key z ≡ 0 → Valid bs → lw ≡ wires bs * (p .n + 1) → ld ≡ wires bs → DriftGateGood p lk ls key bs lw ld
+  together lw ld e v w d =
       let k = secrets-good p lk ls key z e in
-      let w = wires-good p bs lw ld f in
       record {
-        passing = record { finished = record { secret = k .secret; valid = v; wires-length = w .0 }; drifts-length = w .1 };
+        passing = record { finished = record { secret = k .secret; valid = v; wires-length = w }; drifts-length = d };
         switching = k .switching;
         bootstrapping = k .bootstrapping;
       }
 
   pub gate-good : (lw ld : ℕ) → driftGateAnswer p lk ls key z bs lw ld .number ≡ 0 → DriftGateGood p lk ls key bs lw ld
-  unfolding driftGateAnswer
+  unfolding driftGateAnswer driftWiresNumber
   gate-good lw ld e =
-      let s1 = both-done (answer (secretsNumber p lk ls key z)) (orElse (answerOf bs) (answer (driftWiresNumber p bs lw ld))) e in
-      let s2 = both-done (answerOf bs) (answer (driftWiresNumber p bs lw ld)) (s1 .1) in
-      together lw ld (s1 .0) (accepted bs (s2 .0)) (s2 .1)
+      let s = around-good (secretsNumber p lk ls key z) bs _ e in
+      let f = facts (gateLengths lw ld) refl (s .2) in
+      together lw ld (s .0) (s .1) (f .0) (f .1 .0)
 
   pub run-good : (li lp lw lo ld : ℕ) → driftAnswer p lk ls key z bs li lp lw lo ld .number ≡ 0 → DriftRunGood p lk ls key bs li lp lw lo ld
   unfolding driftAnswer lentNumber
   run-good li lp lw lo ld e =
-      let s1 = both-done (answer (secretsNumber p lk ls key z)) (orElse (answerOf bs) (answer (lentNumber p bs li lp lw lo ld))) e in
-      let s2 = both-done (answerOf bs) (answer (lentNumber p bs li lp lw lo ld)) (s1 .1) in
-      let s3 = passed _ 2 _ (lit< tt) (s2 .1) in
-      let s4 = passed _ 2 _ (lit< tt) (s3 .1) in
-      let s5 = passed _ 2 _ (lit< tt) (s4 .1) in
+      let s = around-good (secretsNumber p lk ls key z) bs _ e in
+      let f = facts (runLengths li lp lw lo ld) refl (s .2) in
       record {
-        gate = together lw ld (s1 .0) (accepted bs (s2 .0)) (s5 .1);
-        ins-length = eqb-true _ _ (s3 .0);
-        plain-length = eqb-true _ _ (s4 .0);
-        outs-length = eqb-true _ _ (s5 .0);
+        gate = together lw ld (s .0) (s .1) (f .1 .1 .1 .0) (f .1 .1 .1 .1 .0);
+        ins-length = f .0;
+        plain-length = f .1 .0;
+        outs-length = f .1 .1 .0;
       }
 
   -- for callers: good arguments are not refused, where the level-1 key is binary and of its length
@@ -115,19 +104,12 @@ module _ (p : Params) (lk ls : ℕ) (key z bs : List ℕ) where
     pub gate-done : (lw ld : ℕ) → DriftGateGood p lk ls key bs lw ld → driftGateAnswer p lk ls key z bs lw ld ≡ answer 0
     unfolding driftGateAnswer driftWiresNumber
     gate-done lw ld g =
-        when-done (secretsNumber p lk ls key z) _ _ (keys-done lw ld g)
-        ∙ when-done (answerOf bs .number) _ _ (ap (λ (a : Answer). a .number) (not-refused bs (g .passing .finished .valid)))
-        ∙ rw (eq-eqb lw (wires bs * (p .n + 1)) (g .passing .finished .wires-length), eq-eqb ld (wires bs) (g .passing .drifts-length))
+        around-done (secretsNumber p lk ls key z) bs _ (keys-done lw ld g) (g .passing .finished .valid)
+        (none (gateLengths lw ld) (g .passing .finished .wires-length, (g .passing .drifts-length, tt)))
 
     pub run-done : (li lp lw lo ld : ℕ) → DriftRunGood p lk ls key bs li lp lw lo ld → driftAnswer p lk ls key z bs li lp lw lo ld ≡ answer 0
-    unfolding driftAnswer lentNumber driftWiresNumber
+    unfolding driftAnswer lentNumber
     run-done li lp lw lo ld g =
-        when-done (secretsNumber p lk ls key z) _ _ (keys-done lw ld (g .gate))
-        ∙ when-done (answerOf bs .number) _ _ (ap (λ (a : Answer). a .number) (not-refused bs (g .gate .passing .finished .valid)))
-        ∙ rw (
-          eq-eqb li (inputs bs * (p .n + 1)) (g .ins-length),
-          eq-eqb lp (inputs bs) (g .plain-length),
-          eq-eqb lo (outputs bs * (p .n + 1)) (g .outs-length),
-          eq-eqb lw (wires bs * (p .n + 1)) (g .gate .passing .finished .wires-length),
-          eq-eqb ld (wires bs) (g .gate .passing .drifts-length),
-        )
+        around-done (secretsNumber p lk ls key z) bs _ (keys-done lw ld (g .gate)) (g .gate .passing .finished .valid)
+        (none (runLengths li lp lw lo ld)
+        (g .ins-length, (g .plain-length, (g .outs-length, (g .gate .passing .finished .wires-length, (g .gate .passing .drifts-length, tt))))))

@@ -5,7 +5,7 @@ use mathlib.Core.Path.{_≡_, refl, sym, ap, ap₂, _∙_}
 use mathlib.Core.Bool.{Bool, true, false, cond}
 use mathlib.Core.List.{List, [], _∷_, _++_, map, map-append, append-nil}
 use Prim.Native.Nat.{ℕ, zero, suc, _+_, _*_, _≤_, _<_}
-use native.Mathlib.Nat.{add-zero, mul-le-mul-right}
+use native.Mathlib.Nat.{add-zero}
 use native.Mathlib.Numerals.{add-one}
 use native.Mathlib.Omega.{arith}
 use borrow.Author.Tests.{lt-ltb}
@@ -21,15 +21,15 @@ use Rattle.params.proofs.Answers.{when-done}
 use Rattle.params.proofs.Ranges.{in-range}
 use Rattle.tlwe.specs.Key.{binary}
 use Rattle.circuit.specs.Form.{inputs, gates, outputs, wires}
-use Rattle.encrypted_run.specs.Run.{ciphersTo, ciphersOf, stepped}
-use Rattle.encrypted_run.proofs.Wires.{held-length, run-none, run-more, run-end}
+use Rattle.encrypted_run.specs.Run.{ciphersTo, ciphersOf, stepped, wiresBefore}
+use Rattle.encrypted_run.proofs.Wires.{fits, inputs-fit, held-length, run-none, run-more, run-end}
 use Rattle.drift.specs.Whole.{inside}
 use Rattle.drift.specs.Circuit.{gateDriftOn, gateBroughtOn, freshTo, driftsTo, broughtTo, driftsOf, outputDriftsTo, allOf, allInside}
 use Rattle.drift.proofs.Lists.{drifts-reckoned}
 use Rattle.drift.proofs.Circuits.{drifts-length}
 use Rattle.drift_run.specs.Refusals.{driftGateAnswer}
 use Rattle.drift_run.specs.Private.{DriftGateGood}
-use Rattle.drift_run.specs.Run.{wordsOf, signedOf, driftRunNumber, insideAfter, driftWiresAfter, driftsAfter, wiresBefore, driftsBefore, driftGateNumber, gateBrought, gateInside, gateWiresAfter, driftStepped, gateDriftsAfter}
+use Rattle.drift_run.specs.Run.{wordsOf, signedOf, driftRunNumber, insideAfter, driftWiresAfter, driftsAfter, driftsBefore, driftGateNumber, gateBrought, gateInside, gateWiresAfter, driftStepped, gateDriftsAfter}
 use Rattle.drift_run.proofs.Checks.{gate-done}
 
 -- ---- the calls
@@ -89,32 +89,26 @@ module _ (p : Params) (ksk bsk key z bs ws ds plain : List ℕ) (good : DriftGat
 
   -- ---- lengths
 
-  fits : (n : ℕ) → n ≤ gates bs → (inputs bs + n) * (p .n + 1) ≤ length ws
-  fits n h =
-      let l : inputs bs + n ≤ wires bs = omega (arith, h) in
-      let m = mul-le-mul-right (p .n + 1) l in
-      let e = good .passing .finished .wires-length in
-      omega (arith, m, e)
-
-  inputs-fit : inputs bs * (p .n + 1) ≤ length ws
-  inputs-fit = rw (add-zero (inputs bs)) at (fits 0 (omega arith))
+  within : inputs bs * (p .n + 1) ≤ length ws
+  within = rw (good .passing .finished .wires-length) (inputs-fit p bs)
 
   ciphers-fill : (n : ℕ) → length (cs n) ≡ (inputs bs + n) * (p .n + 1)
-  ciphers-fill n = held-length p ksk bsk bs ws inputs-fit n
+  ciphers-fill n = held-length p ksk bsk bs ws within n
 
   drifts-fill : (n : ℕ) → length (wordsOf (xs n)) ≡ inputs bs + n
   drifts-fill n =
       let f = good .passing .finished in
       ap length (drifts-reckoned p key z (f .secret .bits) ksk bsk bs ins plain n .words-are)
-      ∙ drifts-length p (in-range p (f .secret .good)) key z (f .secret .bits) ksk bsk bs ins plain (f .valid) (length-take-le (inputs bs * (p .n + 1)) ws inputs-fit) n
+      ∙ drifts-length p (in-range p (f .secret .good)) key z (f .secret .bits) ksk bsk bs ins plain (f .valid) (length-take-le (inputs bs * (p .n + 1)) ws within) n
 
   ciphers-long : (n : ℕ) → n ≤ gates bs → length (ciphers-then n) ≡ length ws
   ciphers-long n h =
       let e = length-append (cs n) (drop ((inputs bs + n) * (p .n + 1)) ws) in
       let l = ciphers-fill n in
       let d = length-drop ((inputs bs + n) * (p .n + 1)) ws in
-      let f = fits n h in
-      omega (arith, e, l, d, f)
+      let f = fits p bs n h in
+      let w = good .passing .finished .wires-length in
+      omega (arith, e, l, d, f, w)
 
   drifts-long : (n : ℕ) → n ≤ gates bs → length (drifts-then n) ≡ length ds
   drifts-long n h =
@@ -163,7 +157,7 @@ module _ (p : Params) (ksk bsk key z bs ws ds plain : List ℕ) (good : DriftGat
     ciphers-next =
         when-done _ _ _ (number-done n so)
         ∙ ap (λ (b : Bool). cond b (stepped p ksk bsk bs n (ciphers-then n)) (ciphers-then n)) (lt-ltb n (gates bs) l)
-        ∙ run-more p ksk bsk bs ws inputs-fit n refl
+        ∙ run-more p ksk bsk bs ws within n refl
         ∙ ap (λ (m : ℕ). cs m ++ drop ((inputs bs + m) * (p .n + 1)) ws) (add-one n)
 
     behind : drop (inputs bs + n + 1) (drifts-then n) ≡ drop (inputs bs + suc n) ds
@@ -212,7 +206,7 @@ module _ (p : Params) (ksk bsk key z bs ws ds plain : List ℕ) (good : DriftGat
 
   pub called-are : (n : ℕ) → n ≤ gates bs → called p ksk bsk key z bs n ws ds ≡ then n
   unfolding called oneCall
-  called-are zero h = let c = run-none p ksk bsk bs ws inputs-fit in let d = drifts-none in let t = told-none in λ i. record { ciphers = c i; drifts = d i; told = t i }
+  called-are zero h = let c = run-none p ksk bsk bs ws within in let d = drifts-none in let t = told-none in λ i. record { ciphers = c i; drifts = d i; told = t i }
   called-are (suc n) h =
       let l : n < gates bs = omega (arith, h) in
       let c = ciphers-next n l in
@@ -248,7 +242,7 @@ module _ (p : Params) (ksk bsk key z bs ws ds plain : List ℕ) (good : DriftGat
   steps-run =
       let e = called-are (gates bs) (omega arith) in
       let all : length ds ≤ inputs bs + gates bs = (let d = good .passing .drifts-length in omega (arith, d)) in (
-        run-end p ksk bsk bs ws inputs-fit (gates bs) (omega arith) (omega arith) (good .passing .finished .wires-length) (ap (λ (s : Standing). s .ciphers) e),
+        run-end p ksk bsk bs ws within (gates bs) (omega arith) (omega arith) (good .passing .finished .wires-length) (ap (λ (s : Standing). s .ciphers) e),
         ap (λ (s : Standing). s .drifts) e ∙ ap (λ (x : List ℕ). wordsOf (xs (gates bs)) ++ x) (drop-of-length-le ds all) ∙ append-nil (wordsOf (xs (gates bs))),
       )
 

@@ -9,18 +9,18 @@ use lib.Dec.{lit<}
 use lib.ListN.{length}
 use Rattle.ring.specs.Word.{at}
 use Rattle.params.specs.declared.Params.{Params}
-use Rattle.circuit.specs.Kinds.{kindOf}
+use Rattle.kinds.specs.Kinds.{kindOf}
 use Rattle.circuit.specs.Form.{inputs, gates, outputs, wires, kindAt, operandAt, outputAt}
 use Rattle.circuit.specs.Valid.{Valid}
 use Rattle.circuit.proofs.Accept.{lt-or-ge}
-use Rattle.encrypted_run.specs.declared.Way.{Way}
-use Rattle.encrypted_run.specs.Ways.{wayOf}
-use Rattle.encrypted_run.specs.Refusals.{Within}
-use Rattle.encrypted_run.specs.Run.{cipherAt}
-use Rattle.encrypted_run.proofs.Ciphers.{wire-within, cipher-length}
+use Rattle.ways.specs.declared.Way.{Way}
+use Rattle.ways.specs.Ways.{wayOf}
+use Rattle.ways.specs.Private.{Within}
+use Rattle.ways.specs.Ciphers.{cipherAt}
+use Rattle.ways.proofs.Ciphers.{wire-within, cipher-length}
 use Rattle.drift.specs.CircuitWords.{wayBroughtWords, gateBroughtWords}
 use Rattle.drift.specs.Short.{shortWord, shortGate}
-use Rattle.drift_run.specs.declared.ways.Drifted.{Drifted}
+use Rattle.drift_run.specs.declared.by_way.Drifted.{Drifted}
 use Rattle.drift_run.specs.Private.{drifted}
 
 module _ (bs : List ℕ) (v : Valid bs) where

@@ -17,24 +17,25 @@ use Rattle.ring.specs.Word.{Q, Q-pos, at}
 use Rattle.ring.specs.Centre.{centre, wordOf}
 use Rattle.params.specs.declared.Params.{Params}
 use Rattle.params.specs.Ranges.{InRange}
-use Rattle.tlwe.specs.Key.{binary, phaseOf}
+use Rattle.tlwe.specs.Key.{binary}
 use Rattle.tlwe.specs.Decrypt.{bitOf}
 use Rattle.circuit.specs.Form.{inputs, gates, outputs, wires}
 use Rattle.circuit.specs.Valid.{Valid}
 use Rattle.circuit.proofs.Accept.{lt-or-ge}
-use Rattle.encrypted_run.specs.Run.{cipherAt, gateCipher, ciphersOf, outputCiphers, stepped}
-use Rattle.encrypted_run.proofs.Ciphers.{wire-within}
+use Rattle.ways.specs.Ciphers.{cipherAt}
+use Rattle.encrypted_run.specs.Run.{gateCipher, ciphersOf, outputCiphers, stepped, wiresBefore}
+use Rattle.ways.proofs.Ciphers.{wire-within, cipher-front, cipher-next}
 use Rattle.encrypted_run.proofs.Wires.{gate-length}
-use Rattle.encrypted_run.proofs.Laws.{cipher-front, cipher-next}
 use Rattle.drift.specs.Circuit.{gateDriftOn, gateBroughtOn, driftsOf, allOf, worstFrom, allInside}
 use Rattle.drift.specs.CircuitWords.{allWords, worstWords, outputWords, gateWordOn, gateBroughtWords}
 use Rattle.drift.specs.Short.{shortGate}
 use Rattle.drift.proofs.Passes.{short-gate, short-brought, short-run, short-rotations}
 use Rattle.drift.proofs.Lists.{all-reckoned, worst-reckoned, gate-reckoned, gate-brought-reckoned, drifts-words, inside-reckoned}
 use Rattle.drift.proofs.Demand.{demand-three}
-use Rattle.drift_run.specs.declared.ways.Drifted.{Drifted}
-use Rattle.drift_run.specs.Run.{wordsOf, signedOf, Decrypts, wiresBefore, driftsBefore, gateBrought, driftStepped}
+use Rattle.drift_run.specs.declared.by_way.Drifted.{Drifted}
+use Rattle.drift_run.specs.Run.{wordsOf, signedOf, Decrypts, driftsBefore, gateBrought, driftStepped}
 use Rattle.drift_run.specs.Private.{drifted, shortDrifts, shortInside, putShort, toldShort}
+use Rattle.ring.specs.Phase.{phaseOf}
 
 -- ---- a whole run
 

@@ -17,36 +17,35 @@ use Rattle.params.specs.declared.Params.{Params}
 use Rattle.params.specs.Ranges.{InRange}
 use Rattle.params.specs.Sizes.{size}
 use Rattle.params.proofs.Ranges.{size-from, size-to}
-use Rattle.tlwe.specs.Key.{phaseOf}
 use Rattle.rotation.specs.Amount.{step, maskAmount, bodyAmount}
 use Rattle.rotation.proofs.Amounts.{turn-is, turn-steps}
 use Rattle.blind_rotation.specs.Drift.{turnTo}
-use Rattle.gates.specs.declared.Kind.{Kind}
-use Rattle.gates.specs.declared.sums.Weights.{Weights}
-use Rattle.gates.specs.Kind.{weightsOf}
-use Rattle.gates.specs.Sum.{summed}
+use Rattle.gate_sums.specs.declared.Kind.{Kind}
+use Rattle.gate_sums.specs.declared.Weights.{Weights}
+use Rattle.gate_sums.specs.Weights.{weightsOf}
+use Rattle.gate_sums.specs.Sum.{summed}
+use Rattle.gate_sums.proofs.Sums.{summed-words}
 use Rattle.drift.specs.Words.{roundingWord, broughtWord}
-use Rattle.drift.proofs.Track.{turn-sum}
+use Rattle.blind_rotation.proofs.Start.{turn-sum}
 use Rattle.drift.proofs.Meaning.{summed-below}
 use Rattle.drift.proofs.Round.{rounding-near}
+use Rattle.ring.specs.Phase.{phaseOf}
 
 -- ---- the words of a sum
 
 module _ (p : Params) (kind : Kind) (a b : List ℕ) {w : Weights} (e : w ≡ weightsOf kind) where
   pub mask-word : (i : ℕ) → i < p .n → (w .a * at a i + w .b * at b i) % Q ≡ at (summed p kind a b) i
-  unfolding summed
   mask-word i l =
       ap (λ (v : Weights). (v .a * at a i + v .b * at b i) % Q) e
-      ∙ sym (at-tab (p .n + 1) _ i (omega arith)
+      ∙ sym (ap (λ (l : List ℕ). at l i) (summed-words p kind a b) ∙ at-tab (p .n + 1) _ i (omega arith)
       ∙ ap (λ (c : Bool). (weightsOf kind .a * at a i + weightsOf kind .b * at b i + cond c (weightsOf kind .added) 0) % Q) (ne-eqb i (p .n) (λ q. let z : ⊥ = omega arith in z))
       ∙ ap (λ (x : ℕ). x % Q) (add-zero (weightsOf kind .a * at a i + weightsOf kind .b * at b i)))
 
   pub last-word : ((w .a * at a (p .n) + w .b * at b (p .n)) % Q + w .added) % Q ≡ at (summed p kind a b) (p .n)
-  unfolding summed
   last-word =
       ap (λ (v : Weights). ((v .a * at a (p .n) + v .b * at b (p .n)) % Q + v .added) % Q) e
       ∙ mod-add-mod (weightsOf kind .a * at a (p .n) + weightsOf kind .b * at b (p .n)) Q (weightsOf kind .added)
-      ∙ sym (at-tab (p .n + 1) _ (p .n) (omega arith)
+      ∙ sym (ap (λ (l : List ℕ). at l (p .n)) (summed-words p kind a b) ∙ at-tab (p .n + 1) _ (p .n) (omega arith)
       ∙ ap (λ (c : Bool). (weightsOf kind .a * at a (p .n) + weightsOf kind .b * at b (p .n) + cond c (weightsOf kind .added) 0) % Q) (eq-eqb (p .n) (p .n) refl))
 
   -- the masks' turns, as the loop adds them up

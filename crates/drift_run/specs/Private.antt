@@ -13,7 +13,7 @@ use Rattle.circuit.specs.Valid.{Valid}
 use Rattle.encrypted_run.specs.Run.{stepped}
 use Rattle.drift.specs.CircuitWords.{allWords, worstWords, gateBroughtWords, freshWords, outputWords}
 use Rattle.drift.specs.Short.{shortGate, shortTo, shortBroughtTo}
-use Rattle.drift_run.specs.declared.ways.Drifted.{Drifted}
+use Rattle.drift_run.specs.declared.by_way.Drifted.{Drifted}
 
 -- A drift, and what was brought into the rotations on the way to it.
 abbrev pub drifted : ℕ → List ℕ → Drifted

@@ -12,15 +12,17 @@ use Rattle.ring.specs.Centre.{centre, wordOf}
 use Rattle.params.specs.declared.Params.{Params}
 use Rattle.params.specs.Refusal.{ifDone}
 use Rattle.tlwe.specs.declared.Level.the-variants.{Zero}
-use Rattle.tlwe.specs.Key.{keyedNumber, phaseOf}
+use Rattle.tlwe.specs.Key.{keyedNumber}
 use Rattle.tlwe.specs.Decrypt.{bitOf}
 use Rattle.circuit.specs.Form.{inputs, gates}
 use Rattle.circuit.specs.Plain.{outputBits}
-use Rattle.encrypted_run.specs.Run.{cipherAt, ciphersOf, outputCiphers, stepped}
+use Rattle.ways.specs.Ciphers.{cipherAt}
+use Rattle.encrypted_run.specs.Run.{ciphersOf, outputCiphers, wiresBefore, stepped}
 use Rattle.drift.specs.Whole.{freshDrift}
 use Rattle.drift.specs.Circuit.{gateDriftOn, gateBroughtOn, driftsOf, allOf, worstOf, allInside}
 use Rattle.drift_run.specs.Refusals.{driftAnswer, driftGateAnswer}
 use Rattle.ring.specs.Bit.{truth}
+use Rattle.ring.specs.Phase.{phaseOf}
 
 -- Whole numbers as words.
 abbrev pub wordsOf : List ℤ → List ℕ
@@ -36,7 +38,7 @@ Decrypts p key bs plain out o = bitOf (phaseOf (p .n) key (cipherAt p out o)) �
 
 -- A fresh drift as a word; 0 where the call is refused.
 unfoldable pub freshValue : Params → List ℕ → List ℕ → Bool → ℕ
-freshValue p key c bit = ifDone (keyedNumber p Zero (length c) key 0) (wordOf (freshDrift p key c bit)) 0
+freshValue p key c bit = ifDone (keyedNumber p Zero (length c) key) (wordOf (freshDrift p key c bit)) 0
 
 -- ---- a run: the slices held ws, out and ds
 
@@ -63,11 +65,7 @@ driftsAfter p ksk bsk key z bs ins plain ws out ds = ifDone (driftRunNumber p ks
 
 -- ---- one gate of it: the slices held ws and ds
 
--- The ciphertexts of the wires before gate g.
-abbrev pub wiresBefore : Params → List ℕ → ℕ → List ℕ → List ℕ
-wiresBefore p bs g ws = take ((inputs bs + g) * (p .n + 1)) ws
-
--- Their drifts.
+-- The drifts of the wires before gate g.
 abbrev pub driftsBefore : List ℕ → ℕ → List ℕ → List ℤ
 driftsBefore bs g ds = signedOf (take (inputs bs + g) ds)
 

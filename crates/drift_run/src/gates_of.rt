@@ -8,31 +8,20 @@ ghost use lib.ListN.{length, take, drop};
 ghost use Rattle.ring.specs.Word.{at};
 ghost use Rattle.circuit.specs.Form.{inputs, gates, outputs};
 ghost use Rattle.circuit.specs.Valid.{Valid};
-ghost use Rattle.encrypted_run.specs.Refusals.{Within};
-ghost use Rattle.encrypted_run.specs.Run.{cipherAt, ciphersOf, outputCiphers, stepped};
+ghost use Rattle.encrypted_run.specs.Run.{ciphersOf, outputCiphers, stepped};
 ghost use Rattle.drift.specs.Words.{freshWord};
 ghost use Rattle.drift.specs.CircuitWords.{gateBroughtWords, freshWords, allWords, outputWords};
 ghost use Rattle.drift.specs.Short.{shortGate, shortTo, shortBroughtTo};
 ghost use Rattle.drift_run.specs.Private.{Secret, Finished, Passing, DriftGateGood, DriftRunGood, drifted, putShort, toldShort, shortDrifts, shortInside};
+use crate::by_way::Drifted;
+use crate::by_way::both;
+use crate::by_way::way_drift;
 use crate::turns::bit_word;
 use crate::turns::phase;
-use crate::ways::Drifted;
-use crate::ways::both;
-use crate::ways::way_drift;
-use crate::ways::word_inside;
+use drift_size::is_inside;
 use params::Params;
+use ways::ciphertext;
 ghost use Rattle.ring.specs.Bit.{truth};
-
-// The ciphertext of wire w.
-fn wire(p: Params, wires: &[u32], w: usize) -> &[u32]
-    requires { ⌜ Within p w (length (now wires)) ⌝ }
-    ensures { λ r. ⌜ now r ≡ cipherAt p (now (wires .entry)) w ⌝ }
-{
-    let words = p.n as usize + 1;
-    let from = w * words;
-    let to = from + words;
-    &wires[from..to]
-}
 
 // The drift of wire w among these; 0 for any other.
 fn drift_at(drifts: &[u32], w: usize) -> u32
@@ -57,7 +46,7 @@ fn gate_told(
     ensures { λ r. ⌜ r ≡ drifted (shortGate p (now (key .entry)) (now (bytes .entry)) (now (wires .entry)) (now (before .entry)) g) (gateBroughtWords p (now (key .entry)) (now (bytes .entry)) (now (wires .entry)) (now (before .entry)) g) ⌝ }
 {
     let shape = circuit::counts(bytes);
-    let way = encrypted_run::way_of(circuit::kind_at(bytes, g));
+    let way = ways::way_of(circuit::kind_at(bytes, g));
     let x = circuit::operand_at(bytes, g, 0);
     let y = circuit::operand_at(bytes, g, 1);
     let z = circuit::operand_at(bytes, g, 2);
@@ -66,10 +55,10 @@ fn gate_told(
         p,
         way,
         key,
-        wire(p, wires, x),
-        wire(p, wires, y),
-        wire(p, wires, z),
-        wire(p, wires, own),
+        ciphertext(p, wires, x),
+        ciphertext(p, wires, y),
+        ciphertext(p, wires, z),
+        ciphertext(p, wires, own),
         drift_at(before, x),
         drift_at(before, y),
         drift_at(before, z),
@@ -130,7 +119,7 @@ fn inputs_into(p: Params, key: &[u32], ins: &[u32], plain: &[u8], drifts: &mut [
     let n = plain.len();
     let mut i = 0;
     while i < n {
-        drifts[i] = fresh(p, key, wire(p, ins, i), plain[i] != 0);
+        drifts[i] = fresh(p, key, ciphertext(p, ins, i), plain[i] != 0);
         i += 1;
     }
 }
@@ -146,7 +135,7 @@ fn outputs_inside(bytes: &[u8], drifts: &[u32]) -> bool
     let mut o = 0;
     while o < n {
         let drift = drift_at(drifts, circuit::output_at(bytes, o));
-        inside = both(inside, word_inside(drift));
+        inside = both(inside, is_inside(drift));
         o += 1;
     }
     inside

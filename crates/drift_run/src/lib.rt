@@ -17,10 +17,10 @@ use params::Params;
 use tlwe::Level;
 use utils::Torus;
 
+mod answers;
+mod by_way;
 mod gates_of;
-mod refusals;
 mod turns;
-mod ways;
 
 // What a drift run tells: whether all that demand 3 names are inside, false beside a refusal.
 pub struct RunTold {
@@ -45,12 +45,12 @@ pub struct FreshTold {
 pub fn is_inside(drift: Torus) -> bool
     ensures { λ r. ⌜ r ≡ inside (centre (drift .0)) ⌝ }
 {
-    ways::word_inside(drift.0)
+    drift_size::is_inside(drift.0)
 }
 
 // The fresh drift of the ciphertext c of a bit. Refusals: 1, 2, 4.
 pub fn fresh_drift(p: Params, key: &[u32], c: &[u32], bit: bool) -> FreshTold
-    ensures said { λ r. ⌜ r .answer ≡ answer (keyedNumber p Zero (length (now (c .entry))) (now (key .entry)) 0) ⌝ }
+    ensures said { λ r. ⌜ r .answer ≡ answer (keyedNumber p Zero (length (now (c .entry))) (now (key .entry))) ⌝ }
     ensures value { λ r. ⌜ r .drift .0 ≡ freshValue p (now (key .entry)) (now (c .entry)) bit ⌝ }
 {
     let phase = tlwe::keys::phase_of(p, Level::Zero, c, key);
@@ -87,7 +87,7 @@ pub fn drift_gate(
     ensures held { λ r. ⌜ now (wires .exit) ≡ gateWiresAfter p (now (ksk .entry)) (now (bsk .entry)) (now (key .entry)) (now (z .entry)) (now (bytes .entry)) g (now (wires .entry)) (now (drifts .entry)) ⌝ }
     ensures written { λ r. ⌜ now (drifts .exit) ≡ gateDriftsAfter p (now (ksk .entry)) (now (bsk .entry)) (now (key .entry)) (now (z .entry)) (now (bytes .entry)) g (now (wires .entry)) (now (drifts .entry)) ⌝ }
 {
-    let said = refusals::gate_answer(
+    let said = answers::gate_answer(
         p,
         ksk.len(),
         bsk.len(),
@@ -135,7 +135,7 @@ pub fn drift_run(
     ensures drifted { λ r. ⌜ now (drifts .exit) ≡ driftsAfter p (now (ksk .entry)) (now (bsk .entry)) (now (key .entry)) (now (z .entry)) (now (bytes .entry)) (now (ins .entry)) (now (plain .entry)) (now (wires .entry)) (now (out .entry)) (now (drifts .entry)) ⌝ }
     ensures right { λ r. ⌜ (r .inside ≡ true → (o : ℕ) → o < outputs (now (bytes .entry)) → Decrypts p (now (key .entry)) (now (bytes .entry)) (now (plain .entry)) (now (out .exit)) o) ⌝ }
 {
-    let said = refusals::run_answer(
+    let said = answers::run_answer(
         p,
         ksk.len(),
         bsk.len(),

@@ -7,19 +7,19 @@ ghost use Rattle.ring.specs.Sums.{sumTo};
 ghost use Rattle.ring.specs.Turn.{source};
 ghost use Rattle.params.specs.Ranges.{paramsNumber};
 ghost use Rattle.params.specs.Sizes.{size};
-ghost use Rattle.tlwe.specs.Key.{phaseOf};
 ghost use Rattle.tlwe.specs.Plain.{bitWord};
 ghost use Rattle.rotation.specs.Amount.{maskAmount, bodyAmount};
 ghost use Rattle.blind_rotation.specs.Drift.{turnTo};
-ghost use Rattle.gates.specs.Sum.{summed};
+ghost use Rattle.gate_sums.specs.Sum.{summed};
 ghost use Rattle.drift.specs.Words.{broughtWord};
 ghost use Rattle.drift.specs.Short.{sideOf};
 ghost use Rattle.drift_run.specs.Private.{Secret};
-use gates::Kind;
-use gates::Weights;
+use gate_sums::Kind;
+use gate_sums::Weights;
 use params::Params;
 use tlwe::Level;
 use utils::Torus;
+ghost use Rattle.ring.specs.Phase.{phaseOf};
 
 // The side of a rotation, and the drift brought into it.
 pub(crate) struct Turned {
@@ -66,7 +66,7 @@ fn masks_turn(p: Params, kind: Kind, key: &[u32], a: &[u32], b: &[u32]) -> u32
     requires { ⌜ Secret p (now key) × (length (now a) ≡ p .n + 1) × (length (now b) ≡ p .n + 1) ⌝ }
     ensures { λ r. ⌜ r ≡ sumTo (p .n) (λ j. at (now (key .entry)) j * maskAmount p (at (summed p kind (now (a .entry)) (now (b .entry))) j)) % Q ⌝ }
 {
-    let w = gates::weights_of(kind);
+    let w = gate_sums::weights_of(kind);
     let n = key.len();
     let mut turned: u32 = 0;
     let mut i = 0;
@@ -83,7 +83,7 @@ fn last_word(p: Params, kind: Kind, a: &[u32], b: &[u32]) -> u32
     requires { ⌜ (length (now a) ≡ p .n + 1) × (length (now b) ≡ p .n + 1) ⌝ }
     ensures { λ r. ⌜ r ≡ at (summed p kind (now (a .entry)) (now (b .entry))) (p .n) ⌝ }
 {
-    let w = gates::weights_of(kind);
+    let w = gate_sums::weights_of(kind);
     let n = p.n as usize;
     ring::add(weighted(w, a[n], b[n]), w.added)
 }
@@ -115,7 +115,7 @@ fn sum_phase(p: Params, kind: Kind, key: &[u32], a: &[u32], b: &[u32]) -> u32
     requires { ⌜ Secret p (now key) × (length (now a) ≡ p .n + 1) × (length (now b) ≡ p .n + 1) ⌝ }
     ensures { λ r. ⌜ r ≡ phaseOf (p .n) (now (key .entry)) (summed p kind (now (a .entry)) (now (b .entry))) ⌝ }
 {
-    let w = gates::weights_of(kind);
+    let w = gate_sums::weights_of(kind);
     let x = phase(p, key, a);
     let y = phase(p, key, b);
     ring::add(weighted(w, x, y), w.added)
@@ -139,7 +139,7 @@ pub(crate) fn rotation(
     let near = ring::mul(place, ring::power(31 - p.nbit));
     let sum = sum_phase(p, kind, key, a, b);
     let rounding = ring::sub(near, sum);
-    let brought = ring::add(weighted(gates::weights_of(kind), da, db), rounding);
+    let brought = ring::add(weighted(gate_sums::weights_of(kind), da, db), rounding);
     Turned {
         side: place < ring::power(p.nbit),
         brought,

@@ -11,11 +11,11 @@ ghost use Rattle.circuit.specs.Form.{outputs};
 ghost use Rattle.drift.specs.Whole.{inside};
 ghost use Rattle.drift_run.specs.Refusals.{driftAnswer, driftGateAnswer};
 ghost use Rattle.drift_run.specs.Run.{Decrypts, freshValue, insideAfter, driftWiresAfter, driftOutputsAfter, driftsAfter, gateWorst, gateWiresAfter, gateDriftsAfter};
-ghost use Rattle.egl_c.specs.Packed.{packedWith, packedTold};
-use super::bit_number;
-use super::pack_told;
-use super::pack_with;
-use params::Params;
+ghost use Rattle.packing.specs.Packed.{packedWith, packedTold};
+use packing::bit_number;
+use packing::numbers;
+use packing::pack_told;
+use packing::pack_with;
 use utils::Torus;
 ghost use Rattle.params.specs.Published.{numbers};
 ghost use Rattle.ring.specs.Bit.{bitNumber, truth};
@@ -41,21 +41,9 @@ pub extern "C" fn egl_fresh_drift(
     c: &[u32],
     bit: u8,
 ) -> u64
-    ensures { λ r. ⌜ r ≡ packedWith (answer (keyedNumber (numbers n nbit bgbit l basebit t) Zero (length (now (c .entry))) (now (key .entry)) 0)) (freshValue (numbers n nbit bgbit l basebit t) (now (key .entry)) (now (c .entry)) (truth bit)) ⌝ }
+    ensures { λ r. ⌜ r ≡ packedWith (answer (keyedNumber (numbers n nbit bgbit l basebit t) Zero (length (now (c .entry))) (now (key .entry)))) (freshValue (numbers n nbit bgbit l basebit t) (now (key .entry)) (now (c .entry)) (truth bit)) ⌝ }
 {
-    let told = drift_run::fresh_drift(
-        Params {
-            n,
-            nbit,
-            bgbit,
-            l,
-            basebit,
-            t,
-        },
-        key,
-        c,
-        bit != 0,
-    );
+    let told = drift_run::fresh_drift(numbers(n, nbit, bgbit, l, basebit, t), key, c, bit != 0);
     let answer = told.answer;
     let drift = told.drift;
     pack_with(answer, drift.0)
@@ -84,14 +72,7 @@ pub extern "C" fn egl_drift_gate(
     ensures written { λ r. ⌜ now (drifts .exit) ≡ gateDriftsAfter (numbers n nbit bgbit l basebit t) (now (ksk .entry)) (now (bsk .entry)) (now (key .entry)) (now (z .entry)) (now (bytes .entry)) g (now (wires .entry)) (now (drifts .entry)) ⌝ }
 {
     let told = drift_run::drift_gate(
-        Params {
-            n,
-            nbit,
-            bgbit,
-            l,
-            basebit,
-            t,
-        },
+        numbers(n, nbit, bgbit, l, basebit, t),
         ksk,
         bsk,
         key,
@@ -133,14 +114,7 @@ pub extern "C" fn egl_drift_run(
     ensures right { λ r. ⌜ (insideAfter (numbers n nbit bgbit l basebit t) (now (ksk .entry)) (now (bsk .entry)) (now (key .entry)) (now (z .entry)) (now (bytes .entry)) (now (ins .entry)) (now (plain .entry)) (now (wires .entry)) (now (out .entry)) (now (drifts .entry)) ≡ true → (o : ℕ) → o < outputs (now (bytes .entry)) → Decrypts (numbers n nbit bgbit l basebit t) (now (key .entry)) (now (bytes .entry)) (now (plain .entry)) (now (out .exit)) o) ⌝ }
 {
     let told = drift_run::drift_run(
-        Params {
-            n,
-            nbit,
-            bgbit,
-            l,
-            basebit,
-            t,
-        },
+        numbers(n, nbit, bgbit, l, basebit, t),
         ksk,
         bsk,
         key,

@@ -4,10 +4,10 @@ ghost use lib.ListN.{length};
 ghost use Rattle.params.specs.Refusal.{answer};
 ghost use Rattle.gates.specs.Gate.{muxed, muxedNaive, gateOut, muxOut};
 ghost use Rattle.gates.specs.Refusals.{gateNumber, muxNumber};
-ghost use Rattle.gates.specs.declared.Kind.the-variants.{Nand, Or, And, Nor, AndNy, AndYn, OrNy, OrYn, Xor, Xnor};
-ghost use Rattle.egl_c.specs.Packed.{packed};
-use super::pack;
-use params::Params;
+ghost use Rattle.gate_sums.specs.declared.Kind.the-variants.{Nand, Or, And, Nor, AndNy, AndYn, OrNy, OrYn, Xor, Xnor};
+ghost use Rattle.packing.specs.Packed.{packed};
+use packing::numbers;
+use packing::pack;
 ghost use Rattle.params.specs.Published.{numbers};
 
 // Not (a and b).
@@ -28,21 +28,7 @@ pub extern "C" fn egl_gates_nand(
     ensures said { λ r. ⌜ r ≡ packed (answer (gateNumber (numbers n nbit bgbit l basebit t) (length (now (a .entry))) (length (now (b .entry))) (length (now (ksk .entry))) (length (now (bsk .entry))) (length (now (out .entry))))) ⌝ }
     ensures written { λ r. ⌜ now (out .exit) ≡ gateOut (numbers n nbit bgbit l basebit t) Nand (now (a .entry)) (now (b .entry)) (now (ksk .entry)) (now (bsk .entry)) (now (out .entry)) ⌝ }
 {
-    pack(gates::nand(
-        Params {
-            n,
-            nbit,
-            bgbit,
-            l,
-            basebit,
-            t,
-        },
-        a,
-        b,
-        ksk,
-        bsk,
-        out,
-    ))
+    pack(named_gates::nand(numbers(n, nbit, bgbit, l, basebit, t), a, b, ksk, bsk, out))
 }
 
 // A or b.
@@ -63,21 +49,7 @@ pub extern "C" fn egl_gates_or(
     ensures said { λ r. ⌜ r ≡ packed (answer (gateNumber (numbers n nbit bgbit l basebit t) (length (now (a .entry))) (length (now (b .entry))) (length (now (ksk .entry))) (length (now (bsk .entry))) (length (now (out .entry))))) ⌝ }
     ensures written { λ r. ⌜ now (out .exit) ≡ gateOut (numbers n nbit bgbit l basebit t) Or (now (a .entry)) (now (b .entry)) (now (ksk .entry)) (now (bsk .entry)) (now (out .entry)) ⌝ }
 {
-    pack(gates::or(
-        Params {
-            n,
-            nbit,
-            bgbit,
-            l,
-            basebit,
-            t,
-        },
-        a,
-        b,
-        ksk,
-        bsk,
-        out,
-    ))
+    pack(named_gates::or(numbers(n, nbit, bgbit, l, basebit, t), a, b, ksk, bsk, out))
 }
 
 // A and b.
@@ -98,21 +70,7 @@ pub extern "C" fn egl_gates_and(
     ensures said { λ r. ⌜ r ≡ packed (answer (gateNumber (numbers n nbit bgbit l basebit t) (length (now (a .entry))) (length (now (b .entry))) (length (now (ksk .entry))) (length (now (bsk .entry))) (length (now (out .entry))))) ⌝ }
     ensures written { λ r. ⌜ now (out .exit) ≡ gateOut (numbers n nbit bgbit l basebit t) And (now (a .entry)) (now (b .entry)) (now (ksk .entry)) (now (bsk .entry)) (now (out .entry)) ⌝ }
 {
-    pack(gates::and(
-        Params {
-            n,
-            nbit,
-            bgbit,
-            l,
-            basebit,
-            t,
-        },
-        a,
-        b,
-        ksk,
-        bsk,
-        out,
-    ))
+    pack(named_gates::and(numbers(n, nbit, bgbit, l, basebit, t), a, b, ksk, bsk, out))
 }
 
 // Not (a or b).
@@ -133,21 +91,7 @@ pub extern "C" fn egl_gates_nor(
     ensures said { λ r. ⌜ r ≡ packed (answer (gateNumber (numbers n nbit bgbit l basebit t) (length (now (a .entry))) (length (now (b .entry))) (length (now (ksk .entry))) (length (now (bsk .entry))) (length (now (out .entry))))) ⌝ }
     ensures written { λ r. ⌜ now (out .exit) ≡ gateOut (numbers n nbit bgbit l basebit t) Nor (now (a .entry)) (now (b .entry)) (now (ksk .entry)) (now (bsk .entry)) (now (out .entry)) ⌝ }
 {
-    pack(gates::nor(
-        Params {
-            n,
-            nbit,
-            bgbit,
-            l,
-            basebit,
-            t,
-        },
-        a,
-        b,
-        ksk,
-        bsk,
-        out,
-    ))
+    pack(named_gates::nor(numbers(n, nbit, bgbit, l, basebit, t), a, b, ksk, bsk, out))
 }
 
 // (not a) and b.
@@ -168,21 +112,7 @@ pub extern "C" fn egl_gates_and_ny(
     ensures said { λ r. ⌜ r ≡ packed (answer (gateNumber (numbers n nbit bgbit l basebit t) (length (now (a .entry))) (length (now (b .entry))) (length (now (ksk .entry))) (length (now (bsk .entry))) (length (now (out .entry))))) ⌝ }
     ensures written { λ r. ⌜ now (out .exit) ≡ gateOut (numbers n nbit bgbit l basebit t) AndNy (now (a .entry)) (now (b .entry)) (now (ksk .entry)) (now (bsk .entry)) (now (out .entry)) ⌝ }
 {
-    pack(gates::and_ny(
-        Params {
-            n,
-            nbit,
-            bgbit,
-            l,
-            basebit,
-            t,
-        },
-        a,
-        b,
-        ksk,
-        bsk,
-        out,
-    ))
+    pack(named_gates::and_ny(numbers(n, nbit, bgbit, l, basebit, t), a, b, ksk, bsk, out))
 }
 
 // A and (not b).
@@ -203,21 +133,7 @@ pub extern "C" fn egl_gates_and_yn(
     ensures said { λ r. ⌜ r ≡ packed (answer (gateNumber (numbers n nbit bgbit l basebit t) (length (now (a .entry))) (length (now (b .entry))) (length (now (ksk .entry))) (length (now (bsk .entry))) (length (now (out .entry))))) ⌝ }
     ensures written { λ r. ⌜ now (out .exit) ≡ gateOut (numbers n nbit bgbit l basebit t) AndYn (now (a .entry)) (now (b .entry)) (now (ksk .entry)) (now (bsk .entry)) (now (out .entry)) ⌝ }
 {
-    pack(gates::and_yn(
-        Params {
-            n,
-            nbit,
-            bgbit,
-            l,
-            basebit,
-            t,
-        },
-        a,
-        b,
-        ksk,
-        bsk,
-        out,
-    ))
+    pack(named_gates::and_yn(numbers(n, nbit, bgbit, l, basebit, t), a, b, ksk, bsk, out))
 }
 
 // (not a) or b.
@@ -238,21 +154,7 @@ pub extern "C" fn egl_gates_or_ny(
     ensures said { λ r. ⌜ r ≡ packed (answer (gateNumber (numbers n nbit bgbit l basebit t) (length (now (a .entry))) (length (now (b .entry))) (length (now (ksk .entry))) (length (now (bsk .entry))) (length (now (out .entry))))) ⌝ }
     ensures written { λ r. ⌜ now (out .exit) ≡ gateOut (numbers n nbit bgbit l basebit t) OrNy (now (a .entry)) (now (b .entry)) (now (ksk .entry)) (now (bsk .entry)) (now (out .entry)) ⌝ }
 {
-    pack(gates::or_ny(
-        Params {
-            n,
-            nbit,
-            bgbit,
-            l,
-            basebit,
-            t,
-        },
-        a,
-        b,
-        ksk,
-        bsk,
-        out,
-    ))
+    pack(named_gates::or_ny(numbers(n, nbit, bgbit, l, basebit, t), a, b, ksk, bsk, out))
 }
 
 // A or (not b).
@@ -273,21 +175,7 @@ pub extern "C" fn egl_gates_or_yn(
     ensures said { λ r. ⌜ r ≡ packed (answer (gateNumber (numbers n nbit bgbit l basebit t) (length (now (a .entry))) (length (now (b .entry))) (length (now (ksk .entry))) (length (now (bsk .entry))) (length (now (out .entry))))) ⌝ }
     ensures written { λ r. ⌜ now (out .exit) ≡ gateOut (numbers n nbit bgbit l basebit t) OrYn (now (a .entry)) (now (b .entry)) (now (ksk .entry)) (now (bsk .entry)) (now (out .entry)) ⌝ }
 {
-    pack(gates::or_yn(
-        Params {
-            n,
-            nbit,
-            bgbit,
-            l,
-            basebit,
-            t,
-        },
-        a,
-        b,
-        ksk,
-        bsk,
-        out,
-    ))
+    pack(named_gates::or_yn(numbers(n, nbit, bgbit, l, basebit, t), a, b, ksk, bsk, out))
 }
 
 // A xor b.
@@ -308,21 +196,7 @@ pub extern "C" fn egl_gates_xor(
     ensures said { λ r. ⌜ r ≡ packed (answer (gateNumber (numbers n nbit bgbit l basebit t) (length (now (a .entry))) (length (now (b .entry))) (length (now (ksk .entry))) (length (now (bsk .entry))) (length (now (out .entry))))) ⌝ }
     ensures written { λ r. ⌜ now (out .exit) ≡ gateOut (numbers n nbit bgbit l basebit t) Xor (now (a .entry)) (now (b .entry)) (now (ksk .entry)) (now (bsk .entry)) (now (out .entry)) ⌝ }
 {
-    pack(gates::xor(
-        Params {
-            n,
-            nbit,
-            bgbit,
-            l,
-            basebit,
-            t,
-        },
-        a,
-        b,
-        ksk,
-        bsk,
-        out,
-    ))
+    pack(named_gates::xor(numbers(n, nbit, bgbit, l, basebit, t), a, b, ksk, bsk, out))
 }
 
 // A xor b too, and not its negation: that is what the Rust's `xnor` computes (specs/Kind.antt).
@@ -343,21 +217,7 @@ pub extern "C" fn egl_gates_xnor(
     ensures said { λ r. ⌜ r ≡ packed (answer (gateNumber (numbers n nbit bgbit l basebit t) (length (now (a .entry))) (length (now (b .entry))) (length (now (ksk .entry))) (length (now (bsk .entry))) (length (now (out .entry))))) ⌝ }
     ensures written { λ r. ⌜ now (out .exit) ≡ gateOut (numbers n nbit bgbit l basebit t) Xnor (now (a .entry)) (now (b .entry)) (now (ksk .entry)) (now (bsk .entry)) (now (out .entry)) ⌝ }
 {
-    pack(gates::xnor(
-        Params {
-            n,
-            nbit,
-            bgbit,
-            l,
-            basebit,
-            t,
-        },
-        a,
-        b,
-        ksk,
-        bsk,
-        out,
-    ))
+    pack(named_gates::xnor(numbers(n, nbit, bgbit, l, basebit, t), a, b, ksk, bsk, out))
 }
 
 // a ? b : c, with two rotations and one key switching. Refusals: 1, 2.
@@ -379,15 +239,8 @@ pub extern "C" fn egl_gates_mux(
     ensures said { λ r. ⌜ r ≡ packed (answer (muxNumber (numbers n nbit bgbit l basebit t) (length (now (a .entry))) (length (now (b .entry))) (length (now (c .entry))) (length (now (ksk .entry))) (length (now (bsk .entry))) (length (now (out .entry))))) ⌝ }
     ensures written { λ r. ⌜ now (out .exit) ≡ muxOut muxed (numbers n nbit bgbit l basebit t) (now (a .entry)) (now (b .entry)) (now (c .entry)) (now (ksk .entry)) (now (bsk .entry)) (now (out .entry)) ⌝ }
 {
-    pack(gates::mux(
-        Params {
-            n,
-            nbit,
-            bgbit,
-            l,
-            basebit,
-            t,
-        },
+    pack(named_gates::mux(
+        numbers(n, nbit, bgbit, l, basebit, t),
         a,
         b,
         c,
@@ -416,15 +269,8 @@ pub extern "C" fn egl_gates_mux_naive(
     ensures said { λ r. ⌜ r ≡ packed (answer (muxNumber (numbers n nbit bgbit l basebit t) (length (now (a .entry))) (length (now (b .entry))) (length (now (c .entry))) (length (now (ksk .entry))) (length (now (bsk .entry))) (length (now (out .entry))))) ⌝ }
     ensures written { λ r. ⌜ now (out .exit) ≡ muxOut muxedNaive (numbers n nbit bgbit l basebit t) (now (a .entry)) (now (b .entry)) (now (c .entry)) (now (ksk .entry)) (now (bsk .entry)) (now (out .entry)) ⌝ }
 {
-    pack(gates::mux_naive(
-        Params {
-            n,
-            nbit,
-            bgbit,
-            l,
-            basebit,
-            t,
-        },
+    pack(named_gates::mux_naive(
+        numbers(n, nbit, bgbit, l, basebit, t),
         a,
         b,
         c,

@@ -3,13 +3,13 @@ ghost use mathlib.Core.Path.{_≡_};
 ghost use lib.ListN.{length};
 ghost use Rattle.params.specs.Refusal.{answer, ifDone};
 ghost use Rattle.key.specs.Offset.{offsetOut};
-ghost use Rattle.key.specs.Testvec.{testNumber, testA, testB};
+ghost use Rattle.key.specs.Testvec.{testNumber, testPair};
 ghost use Rattle.key.specs.Switching.{lookupNumber, placeOut};
 ghost use Rattle.key.specs.Generation.{generateNumber, generated};
-ghost use Rattle.egl_c.specs.Packed.{packed, packedWith};
-use super::pack;
-use super::pack_with;
-use params::Params;
+ghost use Rattle.packing.specs.Packed.{packed, packedWith};
+use packing::numbers;
+use packing::pack;
+use packing::pack_with;
 ghost use Rattle.params.specs.Published.{numbers};
 
 // The decomposition's offset, as the value.
@@ -24,14 +24,7 @@ pub extern "C" fn egl_key_decomposition_offset(
 ) -> u64
     ensures { λ r. ⌜ r ≡ packedWith (offsetOut (numbers n nbit bgbit l basebit t) .answer) (offsetOut (numbers n nbit bgbit l basebit t) .value .0) ⌝ }
 {
-    let o = key::decomposition_offset(Params {
-        n,
-        nbit,
-        bgbit,
-        l,
-        basebit,
-        t,
-    });
+    let o = key::decomposition_offset(numbers(n, nbit, bgbit, l, basebit, t));
     let answer = o.answer;
     let value = o.value;
     pack_with(answer, value.0)
@@ -50,21 +43,10 @@ pub extern "C" fn egl_key_gen_testvec(
     b: &mut [u32],
 ) -> u64
     ensures said { λ r. ⌜ r ≡ packed (answer (testNumber (numbers n nbit bgbit l basebit t) (length (now (a .entry))) (length (now (b .entry))))) ⌝ }
-    ensures first { λ r. ⌜ now (a .exit) ≡ ifDone (testNumber (numbers n nbit bgbit l basebit t) (length (now (a .entry))) (length (now (b .entry)))) (testA (numbers n nbit bgbit l basebit t)) (now (a .entry)) ⌝ }
-    ensures second { λ r. ⌜ now (b .exit) ≡ ifDone (testNumber (numbers n nbit bgbit l basebit t) (length (now (a .entry))) (length (now (b .entry)))) (testB (numbers n nbit bgbit l basebit t)) (now (b .entry)) ⌝ }
+    ensures first { λ r. ⌜ now (a .exit) ≡ ifDone (testNumber (numbers n nbit bgbit l basebit t) (length (now (a .entry))) (length (now (b .entry)))) (testPair (numbers n nbit bgbit l basebit t) .a) (now (a .entry)) ⌝ }
+    ensures second { λ r. ⌜ now (b .exit) ≡ ifDone (testNumber (numbers n nbit bgbit l basebit t) (length (now (a .entry))) (length (now (b .entry)))) (testPair (numbers n nbit bgbit l basebit t) .b) (now (b .entry)) ⌝ }
 {
-    pack(key::gen_testvec(
-        Params {
-            n,
-            nbit,
-            bgbit,
-            l,
-            basebit,
-            t,
-        },
-        a,
-        b,
-    ))
+    pack(key::gen_testvec(numbers(n, nbit, bgbit, l, basebit, t), a, b))
 }
 
 // `gen_key_switching_key` with lent masks and noise, drawn in row order by the rows with k from 1. Refusals: 1, 2, 4.
@@ -86,14 +68,7 @@ pub extern "C" fn egl_key_gen_key_switching_key(
     ensures written { λ r. ⌜ now (out .exit) ≡ ifDone (generateNumber (numbers n nbit bgbit l basebit t) (now («key_lv0» .entry)) (now («key_lv1» .entry)) (length (now (masks .entry))) (length (now (noise .entry))) (length (now (out .entry)))) (generated (numbers n nbit bgbit l basebit t) (now («key_lv0» .entry)) (now («key_lv1» .entry)) (now (masks .entry)) (now (noise .entry))) (now (out .entry)) ⌝ }
 {
     pack(key::gen_key_switching_key(
-        Params {
-            n,
-            nbit,
-            bgbit,
-            l,
-            basebit,
-            t,
-        },
+        numbers(n, nbit, bgbit, l, basebit, t),
         key_lv0,
         key_lv1,
         masks,
@@ -118,20 +93,7 @@ pub extern "C" fn egl_key_switching_row_answer(
 ) -> u64
     ensures { λ r. ⌜ r ≡ packed (answer (lookupNumber (numbers n nbit bgbit l basebit t) words i j k)) ⌝ }
 {
-    pack(key::switching_row_answer(
-        Params {
-            n,
-            nbit,
-            bgbit,
-            l,
-            basebit,
-            t,
-        },
-        words,
-        i,
-        j,
-        k,
-    ))
+    pack(key::switching_row_answer(numbers(n, nbit, bgbit, l, basebit, t), words, i, j, k))
 }
 
 // The place of row (i, j, k) among the rows of the switching key, as the value: its first word stands at (n + 1) times this. Refusals: 1, 3.
@@ -149,19 +111,7 @@ pub extern "C" fn egl_key_row_index(
 ) -> u64
     ensures { λ r. ⌜ r ≡ packedWith (placeOut (numbers n nbit bgbit l basebit t) i j k .answer) (placeOut (numbers n nbit bgbit l basebit t) i j k .value) ⌝ }
 {
-    let found = key::row_index(
-        Params {
-            n,
-            nbit,
-            bgbit,
-            l,
-            basebit,
-            t,
-        },
-        i,
-        j,
-        k,
-    );
+    let found = key::row_index(numbers(n, nbit, bgbit, l, basebit, t), i, j, k);
     let answer = found.answer;
     let value = found.value;
     pack_with(answer, value)

@@ -2,9 +2,9 @@
 ghost use mathlib.Core.Path.{_≡_};
 ghost use Rattle.params.specs.Refusal.{answer};
 ghost use Rattle.params.specs.Ranges.{paramsNumber};
-ghost use Rattle.egl_c.specs.Packed.{packed};
-use super::pack;
-use params::Params;
+ghost use Rattle.packing.specs.Packed.{packed};
+use packing::numbers;
+use packing::pack;
 ghost use Rattle.params.specs.Published.{numbers};
 
 // Refusal 1 where a number is outside its range.
@@ -19,12 +19,5 @@ pub extern "C" fn egl_params_check(
 ) -> u64
     ensures { λ r. ⌜ r ≡ packed (answer (paramsNumber (numbers n nbit bgbit l basebit t))) ⌝ }
 {
-    pack(params::check(Params {
-        n,
-        nbit,
-        bgbit,
-        l,
-        basebit,
-        t,
-    }))
+    pack(params::check(numbers(n, nbit, bgbit, l, basebit, t)))
 }

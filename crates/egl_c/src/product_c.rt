@@ -3,9 +3,9 @@ ghost use mathlib.Core.Path.{_≡_};
 ghost use lib.ListN.{length};
 ghost use Rattle.params.specs.Refusal.{answer};
 ghost use Rattle.product.specs.Product.{productNumber, polyMulOut, polyMulAddOut};
-ghost use Rattle.egl_c.specs.Packed.{packed};
-use super::pack;
-use params::Params;
+ghost use Rattle.packing.specs.Packed.{packed};
+use packing::numbers;
+use packing::pack;
 ghost use Rattle.params.specs.Published.{numbers};
 
 // out = a · b modulo X^N + 1 and 2^32: the Rust's `poly_mul`, exact.
@@ -24,19 +24,7 @@ pub extern "C" fn egl_product_poly_mul(
     ensures said { λ r. ⌜ r ≡ packed (answer (productNumber (numbers n nbit bgbit l basebit t) (length (now (a .entry))) (length (now (b .entry))) (length (now (out .entry))))) ⌝ }
     ensures written { λ r. ⌜ now (out .exit) ≡ polyMulOut (numbers n nbit bgbit l basebit t) (now (a .entry)) (now (b .entry)) (now (out .entry)) ⌝ }
 {
-    pack(product::poly_mul(
-        Params {
-            n,
-            nbit,
-            bgbit,
-            l,
-            basebit,
-            t,
-        },
-        a,
-        b,
-        out,
-    ))
+    pack(product::poly_mul(numbers(n, nbit, bgbit, l, basebit, t), a, b, out))
 }
 
 // out = out + a · b: what a sum of products wants, with no copy in between.
@@ -55,17 +43,5 @@ pub extern "C" fn egl_product_poly_mul_add(
     ensures said { λ r. ⌜ r ≡ packed (answer (productNumber (numbers n nbit bgbit l basebit t) (length (now (a .entry))) (length (now (b .entry))) (length (now (out .entry))))) ⌝ }
     ensures written { λ r. ⌜ now (out .exit) ≡ polyMulAddOut (numbers n nbit bgbit l basebit t) (now (a .entry)) (now (b .entry)) (now (out .entry)) ⌝ }
 {
-    pack(product::poly_mul_add(
-        Params {
-            n,
-            nbit,
-            bgbit,
-            l,
-            basebit,
-            t,
-        },
-        a,
-        b,
-        out,
-    ))
+    pack(product::poly_mul_add(numbers(n, nbit, bgbit, l, basebit, t), a, b, out))
 }

@@ -6,9 +6,9 @@ ghost use Rattle.params.specs.Refusal.{answer, ifDone};
 ghost use Rattle.tlwe.specs.Level.{cipherWords};
 ghost use Rattle.tlwe.specs.Linear.{linearNumber, negative};
 ghost use Rattle.tlwe.specs.declared.Level.the-variants.{Zero, One};
-ghost use Rattle.egl_c.specs.Packed.{packed};
-use super::pack;
-use params::Params;
+ghost use Rattle.packing.specs.Packed.{packed};
+use packing::numbers;
+use packing::pack;
 use tlwe::Level;
 ghost use Rattle.params.specs.Published.{numbers};
 
@@ -29,14 +29,7 @@ pub extern "C" fn egl_tlwe_add_lv0(
     ensures written { λ r. ⌜ now (out .exit) ≡ ifDone (linearNumber (numbers n nbit bgbit l basebit t) Zero (length (now (a .entry))) (length (now (b .entry))) (length (now (out .entry)))) (plus (cipherWords (numbers n nbit bgbit l basebit t) Zero) (now (a .entry)) (now (b .entry))) (now (out .entry)) ⌝ }
 {
     pack(tlwe::linear::add(
-        Params {
-            n,
-            nbit,
-            bgbit,
-            l,
-            basebit,
-            t,
-        },
+        numbers(n, nbit, bgbit, l, basebit, t),
         Level::Zero,
         a,
         b,
@@ -61,14 +54,7 @@ pub extern "C" fn egl_tlwe_add_lv1(
     ensures written { λ r. ⌜ now (out .exit) ≡ ifDone (linearNumber (numbers n nbit bgbit l basebit t) One (length (now (a .entry))) (length (now (b .entry))) (length (now (out .entry)))) (plus (cipherWords (numbers n nbit bgbit l basebit t) One) (now (a .entry)) (now (b .entry))) (now (out .entry)) ⌝ }
 {
     pack(tlwe::linear::add(
-        Params {
-            n,
-            nbit,
-            bgbit,
-            l,
-            basebit,
-            t,
-        },
+        numbers(n, nbit, bgbit, l, basebit, t),
         Level::One,
         a,
         b,
@@ -93,14 +79,7 @@ pub extern "C" fn egl_tlwe_sub_lv0(
     ensures written { λ r. ⌜ now (out .exit) ≡ ifDone (linearNumber (numbers n nbit bgbit l basebit t) Zero (length (now (a .entry))) (length (now (b .entry))) (length (now (out .entry)))) (minus (cipherWords (numbers n nbit bgbit l basebit t) Zero) (now (a .entry)) (now (b .entry))) (now (out .entry)) ⌝ }
 {
     pack(tlwe::linear::sub(
-        Params {
-            n,
-            nbit,
-            bgbit,
-            l,
-            basebit,
-            t,
-        },
+        numbers(n, nbit, bgbit, l, basebit, t),
         Level::Zero,
         a,
         b,
@@ -125,14 +104,7 @@ pub extern "C" fn egl_tlwe_sub_lv1(
     ensures written { λ r. ⌜ now (out .exit) ≡ ifDone (linearNumber (numbers n nbit bgbit l basebit t) One (length (now (a .entry))) (length (now (b .entry))) (length (now (out .entry)))) (minus (cipherWords (numbers n nbit bgbit l basebit t) One) (now (a .entry)) (now (b .entry))) (now (out .entry)) ⌝ }
 {
     pack(tlwe::linear::sub(
-        Params {
-            n,
-            nbit,
-            bgbit,
-            l,
-            basebit,
-            t,
-        },
+        numbers(n, nbit, bgbit, l, basebit, t),
         Level::One,
         a,
         b,
@@ -155,19 +127,7 @@ pub extern "C" fn egl_tlwe_neg_lv0(
     ensures said { λ r. ⌜ r ≡ packed (answer (linearNumber (numbers n nbit bgbit l basebit t) Zero (length (now (a .entry))) (length (now (a .entry))) (length (now (out .entry))))) ⌝ }
     ensures written { λ r. ⌜ now (out .exit) ≡ ifDone (linearNumber (numbers n nbit bgbit l basebit t) Zero (length (now (a .entry))) (length (now (a .entry))) (length (now (out .entry)))) (negative (cipherWords (numbers n nbit bgbit l basebit t) Zero) (now (a .entry))) (now (out .entry)) ⌝ }
 {
-    pack(tlwe::linear::neg(
-        Params {
-            n,
-            nbit,
-            bgbit,
-            l,
-            basebit,
-            t,
-        },
-        Level::Zero,
-        a,
-        out,
-    ))
+    pack(tlwe::linear::neg(numbers(n, nbit, bgbit, l, basebit, t), Level::Zero, a, out))
 }
 
 // -a: each word negated, not complemented, at level 1.
@@ -185,19 +145,7 @@ pub extern "C" fn egl_tlwe_neg_lv1(
     ensures said { λ r. ⌜ r ≡ packed (answer (linearNumber (numbers n nbit bgbit l basebit t) One (length (now (a .entry))) (length (now (a .entry))) (length (now (out .entry))))) ⌝ }
     ensures written { λ r. ⌜ now (out .exit) ≡ ifDone (linearNumber (numbers n nbit bgbit l basebit t) One (length (now (a .entry))) (length (now (a .entry))) (length (now (out .entry)))) (negative (cipherWords (numbers n nbit bgbit l basebit t) One) (now (a .entry))) (now (out .entry)) ⌝ }
 {
-    pack(tlwe::linear::neg(
-        Params {
-            n,
-            nbit,
-            bgbit,
-            l,
-            basebit,
-            t,
-        },
-        Level::One,
-        a,
-        out,
-    ))
+    pack(tlwe::linear::neg(numbers(n, nbit, bgbit, l, basebit, t), Level::One, a, out))
 }
 
 // a + multiplier · b, at level 0.
@@ -218,14 +166,7 @@ pub extern "C" fn egl_tlwe_add_mul_lv0(
     ensures written { λ r. ⌜ now (out .exit) ≡ ifDone (linearNumber (numbers n nbit bgbit l basebit t) Zero (length (now (a .entry))) (length (now (b .entry))) (length (now (out .entry)))) (plus (cipherWords (numbers n nbit bgbit l basebit t) Zero) (now (a .entry)) (scale (cipherWords (numbers n nbit bgbit l basebit t) Zero) multiplier (now (b .entry)))) (now (out .entry)) ⌝ }
 {
     pack(tlwe::linear::add_mul(
-        Params {
-            n,
-            nbit,
-            bgbit,
-            l,
-            basebit,
-            t,
-        },
+        numbers(n, nbit, bgbit, l, basebit, t),
         Level::Zero,
         a,
         b,
@@ -252,14 +193,7 @@ pub extern "C" fn egl_tlwe_add_mul_lv1(
     ensures written { λ r. ⌜ now (out .exit) ≡ ifDone (linearNumber (numbers n nbit bgbit l basebit t) One (length (now (a .entry))) (length (now (b .entry))) (length (now (out .entry)))) (plus (cipherWords (numbers n nbit bgbit l basebit t) One) (now (a .entry)) (scale (cipherWords (numbers n nbit bgbit l basebit t) One) multiplier (now (b .entry)))) (now (out .entry)) ⌝ }
 {
     pack(tlwe::linear::add_mul(
-        Params {
-            n,
-            nbit,
-            bgbit,
-            l,
-            basebit,
-            t,
-        },
+        numbers(n, nbit, bgbit, l, basebit, t),
         Level::One,
         a,
         b,
@@ -286,14 +220,7 @@ pub extern "C" fn egl_tlwe_sub_mul_lv0(
     ensures written { λ r. ⌜ now (out .exit) ≡ ifDone (linearNumber (numbers n nbit bgbit l basebit t) Zero (length (now (a .entry))) (length (now (b .entry))) (length (now (out .entry)))) (minus (cipherWords (numbers n nbit bgbit l basebit t) Zero) (now (a .entry)) (scale (cipherWords (numbers n nbit bgbit l basebit t) Zero) multiplier (now (b .entry)))) (now (out .entry)) ⌝ }
 {
     pack(tlwe::linear::sub_mul(
-        Params {
-            n,
-            nbit,
-            bgbit,
-            l,
-            basebit,
-            t,
-        },
+        numbers(n, nbit, bgbit, l, basebit, t),
         Level::Zero,
         a,
         b,
@@ -320,14 +247,7 @@ pub extern "C" fn egl_tlwe_sub_mul_lv1(
     ensures written { λ r. ⌜ now (out .exit) ≡ ifDone (linearNumber (numbers n nbit bgbit l basebit t) One (length (now (a .entry))) (length (now (b .entry))) (length (now (out .entry)))) (minus (cipherWords (numbers n nbit bgbit l basebit t) One) (now (a .entry)) (scale (cipherWords (numbers n nbit bgbit l basebit t) One) multiplier (now (b .entry)))) (now (out .entry)) ⌝ }
 {
     pack(tlwe::linear::sub_mul(
-        Params {
-            n,
-            nbit,
-            bgbit,
-            l,
-            basebit,
-            t,
-        },
+        numbers(n, nbit, bgbit, l, basebit, t),
         Level::One,
         a,
         b,

@@ -7,9 +7,9 @@ ghost use Rattle.utils.specs.Torus.{wordsOfDoubles};
 ghost use Rattle.trlwe.specs.Extract.{extractNumber, extractOut};
 ghost use Rattle.trlwe.specs.Encrypt.{encryptPairNumber, freshBody, wordsOfBits};
 ghost use Rattle.trlwe.specs.Decrypt.{decryptPairNumber, decryptOut};
-ghost use Rattle.egl_c.specs.Packed.{packed};
-use super::pack;
-use params::Params;
+ghost use Rattle.packing.specs.Packed.{packed};
+use packing::numbers;
+use packing::pack;
 ghost use Rattle.params.specs.Published.{numbers};
 
 // Encryption of N doubles, fractions of a turn: `TRLWELv1::encrypt_f64`.
@@ -33,14 +33,7 @@ pub extern "C" fn egl_trlwe_encrypt_f64(
     ensures body { λ r. ⌜ now (b .exit) ≡ ifDone (encryptPairNumber (numbers n nbit bgbit l basebit t) (length (now (plain .entry))) (length (now (masks .entry))) (length (now (noise .entry))) (now (key .entry)) (length (now (a .entry))) (length (now (b .entry)))) (freshBody (size (numbers n nbit bgbit l basebit t)) (wordsOfDoubles (now (plain .entry))) (now (noise .entry)) (now (masks .entry)) (now (key .entry))) (now (b .entry)) ⌝ }
 {
     pack(trlwe::encrypt_f64(
-        Params {
-            n,
-            nbit,
-            bgbit,
-            l,
-            basebit,
-            t,
-        },
+        numbers(n, nbit, bgbit, l, basebit, t),
         plain,
         masks,
         noise,
@@ -71,14 +64,7 @@ pub extern "C" fn egl_trlwe_encrypt_bool(
     ensures body { λ r. ⌜ now (b .exit) ≡ ifDone (encryptPairNumber (numbers n nbit bgbit l basebit t) (length (now (plain .entry))) (length (now (masks .entry))) (length (now (noise .entry))) (now (key .entry)) (length (now (a .entry))) (length (now (b .entry)))) (freshBody (size (numbers n nbit bgbit l basebit t)) (wordsOfBits (now (plain .entry))) (now (noise .entry)) (now (masks .entry)) (now (key .entry))) (now (b .entry)) ⌝ }
 {
     pack(trlwe::encrypt_bool(
-        Params {
-            n,
-            nbit,
-            bgbit,
-            l,
-            basebit,
-            t,
-        },
+        numbers(n, nbit, bgbit, l, basebit, t),
         plain,
         masks,
         noise,
@@ -105,20 +91,7 @@ pub extern "C" fn egl_trlwe_decrypt_bool(
     ensures said { λ r. ⌜ r ≡ packed (answer (decryptPairNumber (numbers n nbit bgbit l basebit t) (length (now (a .entry))) (length (now (b .entry))) (now (key .entry)) (length (now (out .entry))))) ⌝ }
     ensures written { λ r. ⌜ now (out .exit) ≡ decryptOut (numbers n nbit bgbit l basebit t) (now (a .entry)) (now (b .entry)) (now (key .entry)) (now (out .entry)) ⌝ }
 {
-    pack(trlwe::decrypt_bool(
-        Params {
-            n,
-            nbit,
-            bgbit,
-            l,
-            basebit,
-            t,
-        },
-        a,
-        b,
-        key,
-        out,
-    ))
+    pack(trlwe::decrypt_bool(numbers(n, nbit, bgbit, l, basebit, t), a, b, key, out))
 }
 
 // The sample of coefficient k: N masks and b[k]. Its phase is the pair's at k, and one for each one of the key after k.
@@ -138,18 +111,5 @@ pub extern "C" fn egl_trlwe_sample_extract_index(
     ensures said { λ r. ⌜ r ≡ packed (answer (extractNumber (numbers n nbit bgbit l basebit t) (length (now (a .entry))) (length (now (b .entry))) k (length (now (out .entry))))) ⌝ }
     ensures written { λ r. ⌜ now (out .exit) ≡ extractOut (numbers n nbit bgbit l basebit t) (now (a .entry)) (now (b .entry)) k (now (out .entry)) ⌝ }
 {
-    pack(trlwe::sample_extract_index(
-        Params {
-            n,
-            nbit,
-            bgbit,
-            l,
-            basebit,
-            t,
-        },
-        a,
-        b,
-        k,
-        out,
-    ))
+    pack(trlwe::sample_extract_index(numbers(n, nbit, bgbit, l, basebit, t), a, b, k, out))
 }

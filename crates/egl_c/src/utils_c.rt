@@ -6,8 +6,8 @@ ghost use lib.ListN.{length};
 ghost use Rattle.ring.specs.Word.{Q};
 ghost use Rattle.params.specs.Refusal.{answer, ifDone};
 ghost use Rattle.utils.specs.Torus.{word, wordsOfDoubles, vecNumber};
-ghost use Rattle.egl_c.specs.Packed.{packed};
-use super::pack;
+ghost use Rattle.packing.specs.Packed.{packed};
+use packing::pack;
 
 // The word of a double.
 #[no_mangle]

@@ -1,6 +1,6 @@
 // Which interface this is.
 ghost use mathlib.Core.Path.{_≡_};
-ghost use Rattle.egl_c.specs.Packed.{interfaceVersion};
+ghost use Rattle.packing.specs.Packed.{interfaceVersion};
 
 // The version of the interface, to be held against the header's EGL_VERSION.
 #[no_mangle]

@@ -5,11 +5,10 @@ ghost use lib.ListN.{length};
 ghost use Rattle.params.specs.Refusal.{answer, ifDone};
 ghost use Rattle.tlwe.specs.Linear.{linearNumber, negative};
 ghost use Rattle.tlwe.specs.declared.Level.the-variants.{Zero};
-ghost use Rattle.gates.specs.Refusals.{constantNumber};
-ghost use Rattle.gates.specs.Sum.{constantOf};
-ghost use Rattle.egl_c.specs.Packed.{packed};
-use super::pack;
-use params::Params;
+ghost use Rattle.gate_sums.specs.Sum.{constantOf, constantNumber};
+ghost use Rattle.packing.specs.Packed.{packed};
+use packing::numbers;
+use packing::pack;
 ghost use Rattle.params.specs.Published.{numbers};
 ghost use Rattle.ring.specs.Bit.{truth};
 
@@ -28,18 +27,7 @@ pub extern "C" fn egl_gates_not(
     ensures said { λ r. ⌜ r ≡ packed (answer (linearNumber (numbers n nbit bgbit l basebit t) Zero (length (now (a .entry))) (length (now (a .entry))) (length (now (out .entry))))) ⌝ }
     ensures written { λ r. ⌜ now (out .exit) ≡ ifDone (linearNumber (numbers n nbit bgbit l basebit t) Zero (length (now (a .entry))) (length (now (a .entry))) (length (now (out .entry)))) (negative ((numbers n nbit bgbit l basebit t) .n + 1) (now (a .entry))) (now (out .entry)) ⌝ }
 {
-    pack(gates::wires::not(
-        Params {
-            n,
-            nbit,
-            bgbit,
-            l,
-            basebit,
-            t,
-        },
-        a,
-        out,
-    ))
+    pack(gate_sums::wires::not(numbers(n, nbit, bgbit, l, basebit, t), a, out))
 }
 
 // A copy of a ciphertext.
@@ -57,18 +45,7 @@ pub extern "C" fn egl_gates_copy(
     ensures said { λ r. ⌜ r ≡ packed (answer (linearNumber (numbers n nbit bgbit l basebit t) Zero (length (now (a .entry))) (length (now (a .entry))) (length (now (out .entry))))) ⌝ }
     ensures written { λ r. ⌜ now (out .exit) ≡ ifDone (linearNumber (numbers n nbit bgbit l basebit t) Zero (length (now (a .entry))) (length (now (a .entry))) (length (now (out .entry)))) (now (a .entry)) (now (out .entry)) ⌝ }
 {
-    pack(gates::wires::copy(
-        Params {
-            n,
-            nbit,
-            bgbit,
-            l,
-            basebit,
-            t,
-        },
-        a,
-        out,
-    ))
+    pack(gate_sums::wires::copy(numbers(n, nbit, bgbit, l, basebit, t), a, out))
 }
 
 // A ciphertext of a known bit, which any key decrypts.
@@ -86,16 +63,5 @@ pub extern "C" fn egl_gates_constant(
     ensures said { λ r. ⌜ r ≡ packed (answer (constantNumber (numbers n nbit bgbit l basebit t) (length (now (out .entry))))) ⌝ }
     ensures written { λ r. ⌜ now (out .exit) ≡ ifDone (constantNumber (numbers n nbit bgbit l basebit t) (length (now (out .entry)))) (constantOf (numbers n nbit bgbit l basebit t) (truth bit)) (now (out .entry)) ⌝ }
 {
-    pack(gates::wires::constant(
-        Params {
-            n,
-            nbit,
-            bgbit,
-            l,
-            basebit,
-            t,
-        },
-        bit != 0,
-        out,
-    ))
+    pack(gate_sums::wires::constant(numbers(n, nbit, bgbit, l, basebit, t), bit != 0, out))
 }

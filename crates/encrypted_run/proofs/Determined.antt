@@ -1,12 +1,12 @@
 -- Two outcomes that a contract of this crate allows coincide: of the contract itself, as `rattle` reads it from the code, for every public routine (01, 'What the contracts owe').
 -- Assumes nothing.
 use Rattle.ring.proofs.Outcomes.{Determined, said, said-written, said-written-twice}
-use Rattle.encrypted_run.proofs.ways.way_of as way-of
+use Rattle.encrypted_run.proofs.around as around
 use Rattle.encrypted_run.proofs.run_gate as run-gate
 use Rattle.encrypted_run.proofs.run_encrypted as run-encrypted
 
-pub way-of-determined : Determined way-of.ended way-of.Reads.Learnt
-way-of-determined κs a x y v w = said
+pub around-determined : Determined around.ended around.Reads.Learnt
+around-determined κs a x y v w = said
 
 pub run-gate-determined : Determined run-gate.ended run-gate.Reads.Learnt
 run-gate-determined κs a x y v w = said-written 5

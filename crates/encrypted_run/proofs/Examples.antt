@@ -4,11 +4,12 @@ use mathlib.Core.Path.{_≡_, refl}
 use mathlib.Core.List.{List, [], _∷_}
 use Prim.Native.Nat.{ℕ, zero, suc}
 use native.Mathlib.Omega.{arith}
-use Rattle.ring.specs.Word.{Q}
+use Rattle.ring.specs.Word.{Q, fieldOf}
+use Rattle.ring.specs.Lists.{part}
 use Rattle.params.specs.declared.Params.{Params}
 use Rattle.params.specs.Published.{numbers}
 use Rattle.key.specs.Switching.{rowPart, rowIndex}
-use Rattle.switching.specs.Switched.{rounding, rounded, fieldWeight, switchField, maskField}
+use Rattle.switching.specs.Switched.{rounding, rounded, maskField}
 use Rattle.encrypted_run.specs.Rows.{RowsAlike}
 
 -- n 1, N 2, BASEBIT 1, T 1: rows (i, j, k) of two words, four in all
@@ -17,7 +18,7 @@ two = numbers 1 1 6 3 1 1
 
 -- the first mask's field is 0 and the second's is 1, so row (1, 0, 1), the last, is used: the keys share it and nothing else
 pub idle-rows : RowsAlike two (1 ∷ 2 ∷ 3 ∷ 4 ∷ 5 ∷ 6 ∷ 7 ∷ 8 ∷ []) (9 ∷ 9 ∷ 9 ∷ 9 ∷ 9 ∷ 9 ∷ 7 ∷ 8 ∷ []) (0 ∷ 0x80000000 ∷ 9 ∷ [])
-unfolding RowsAlike Q rowPart rowIndex rounding rounded fieldWeight switchField maskField
+unfolding RowsAlike Q part rowPart rowIndex rounding rounded fieldOf maskField
 idle-rows zero zero x hi hj hx nonzero = absurd (nonzero refl)
 idle-rows (suc zero) zero x hi hj hx nonzero = refl
 idle-rows (suc (suc i)) zero x hi hj hx nonzero = absurd (let f : ⊥ = omega (arith, hi) in f)

@@ -6,28 +6,29 @@ use mathlib.Core.Bool.{Bool, cond}
 use mathlib.Core.Logic.{⊎-elim}
 use mathlib.Core.List.{List, _++_}
 use Prim.Native.Nat.{ℕ, zero, suc, _+_, _*_, _-_, _≤_, _<_}
-use native.Mathlib.Nat.{add-zero, add-suc, mul-le-mul-right, eq-zero-or-pos}
+use native.Mathlib.Nat.{add-zero, add-suc, eq-zero-or-pos}
 use native.Mathlib.Numerals.{add-one}
 use native.Mathlib.Omega.{arith}
 use borrow.Author.Tests.{lt-ltb}
 use lib.Dec.{lit<}
 use lib.ListN.{length, take, drop, length-append, length-drop}
-use lib.Seq.{drop-at, drop-append-le, take-append-le, take-all}
+use Rattle.ring.specs.Lists.{part}
 use Rattle.params.specs.declared.Params.{Params}
 use Rattle.params.specs.declared.Answer.{Answer}
 use Rattle.params.proofs.Answers.{when-done}
-use Rattle.key.proofs.Joins.{joined-part}
-use Rattle.circuit.specs.Kinds.{kindOf}
+use Rattle.ring.proofs.Joins.{joined-part}
+use Rattle.kinds.specs.Kinds.{kindOf}
 use Rattle.circuit.specs.Form.{inputs, gates, outputs, wires, kindAt, operandAt, outputAt}
 use Rattle.circuit.specs.Valid.{Valid}
 use Rattle.circuit.proofs.Accept.{lt-or-ge}
-use Rattle.encrypted_run.specs.Ways.{made, ran}
-use Rattle.encrypted_run.specs.Refusals.{StepGood, RunGood, Within}
-use Rattle.encrypted_run.specs.Run.{cipherAt, gateCipher, ciphersTo, ciphersOf, outputCiphers, wiresAfter, outputsAfter, stepped, stepAfter}
-use Rattle.encrypted_run.proofs.Ciphers.{cipher-length, wire-within}
+use Rattle.ways.specs.Ways.{made, ran}
+use Rattle.ways.specs.Ciphers.{cipherAt}
+use Rattle.ways.proofs.Ciphers.{cipher-length, wire-within, cipher-front, cipher-next}
+use Rattle.ways.proofs.Needs.{known-way, needs-first}
+use Rattle.encrypted_run.specs.Private.{StepGood, RunGood}
+use Rattle.encrypted_run.specs.Run.{gateCipher, ciphersTo, ciphersOf, outputCiphers, wiresAfter, outputsAfter, stepped, stepAfter}
 use Rattle.encrypted_run.proofs.Checks.{step-done, run-done}
-use Rattle.encrypted_run.proofs.Operands.{known-way, needs-first}
-use Rattle.encrypted_run.proofs.Wires.{gate-length, ciphers-length, ciphers-more, held-length, run-none, run-more, run-end}
+use Rattle.encrypted_run.proofs.Wires.{fits, inputs-fit, gate-length, ciphers-length, ciphers-more, held-length, run-none, run-more, run-end}
 
 -- ---- a run that is not refused
 
@@ -39,23 +40,6 @@ module _ (p : Params) (ksk bsk bs ins ws out : List ℕ) (g : RunGood p (length 
   pub outputs-written : outputsAfter p ksk bsk bs ins ws out ≡ outputCiphers p bs (ciphersOf p ksk bsk bs ins)
   unfolding outputsAfter
   outputs-written = when-done _ _ _ (ap (λ (a : Answer). a .number) (run-done p (length ksk) (length bsk) bs (length ins) (length ws) (length out) g))
-
--- ---- a ciphertext among others
-
--- one that lies in the front
-pub cipher-front : (p : Params) (front back : List ℕ) (w : ℕ) → Within p w (length front) → cipherAt p (front ++ back) w ≡ cipherAt p front w
-unfolding cipherAt
-cipher-front p front back w h =
-    let m = p .n + 1 in
-    let l = length-drop (w * m) front in
-    let a : w * m ≤ length front = omega arith in
-    let b : m ≤ length (drop (w * m) front) = omega arith in
-    ap (take m) (drop-append-le (w * m) front back a) ∙ take-append-le m (drop (w * m) front) back b
-
--- the one behind the front
-pub cipher-next : (p : Params) (front row : List ℕ) (w : ℕ) → length front ≡ w * (p .n + 1) → length row ≡ p .n + 1 → cipherAt p (front ++ row) w ≡ row
-unfolding cipherAt
-cipher-next p front row w l r = ap (take (p .n + 1)) (drop-at front row (w * (p .n + 1)) l) ∙ take-all (p .n + 1) row (omega arith)
 
 -- ---- the wires of a run
 
@@ -133,7 +117,7 @@ module _ (p : Params) (ksk bsk bs ins : List ℕ) (li : length ins ≡ inputs bs
 
   -- an output has its wire's ciphertext
   pub output-wire : Valid bs → (o : ℕ) → o < outputs bs → cipherAt p (outputCiphers p bs (ciphersOf p ksk bsk bs ins)) o ≡ cipherAt p (ciphersOf p ksk bsk bs ins) (outputAt bs o)
-  unfolding outputCiphers cipherAt
+  unfolding outputCiphers cipherAt part
   output-wire v o h = joined-part (p .n + 1) (λ k. cipherAt p (ciphersOf p ksk bsk bs ins) (outputAt bs k)) (outputs bs) (λ r l. long r l) o h
     where
       long : (r : ℕ) → r < outputs bs → length (cipherAt p (ciphersOf p ksk bsk bs ins) (outputAt bs r)) ≡ p .n + 1
@@ -159,28 +143,22 @@ module _ (p : Params) (ksk bsk bs ws : List ℕ) (good : StepGood p (length ksk)
   abbrev so-far : ℕ → List ℕ
   so-far n = ciphersTo p ksk bsk bs (take (inputs bs * (p .n + 1)) ws) n ++ drop ((inputs bs + n) * (p .n + 1)) ws
 
-  fits : (n : ℕ) → n ≤ gates bs → (inputs bs + n) * (p .n + 1) ≤ length ws
-  fits n h =
-      let l : inputs bs + n ≤ wires bs = omega (arith, h) in
-      let m = mul-le-mul-right (p .n + 1) l in
-      let e = good .wires-length in
-      omega (arith, m, e)
-
-  inputs-fit : inputs bs * (p .n + 1) ≤ length ws
-  inputs-fit = rw (add-zero (inputs bs)) at (fits 0 (omega arith))
+  within : inputs bs * (p .n + 1) ≤ length ws
+  within = rw (good .wires-length) (inputs-fit p bs)
 
   same-length : (n : ℕ) → n ≤ gates bs → length (so-far n) ≡ length ws
   same-length n h =
       let e = length-append (ciphersTo p ksk bsk bs (take (inputs bs * (p .n + 1)) ws) n) (drop ((inputs bs + n) * (p .n + 1)) ws) in
-      let l = held-length p ksk bsk bs ws inputs-fit n in
+      let l = held-length p ksk bsk bs ws within n in
       let d = length-drop ((inputs bs + n) * (p .n + 1)) ws in
-      let f = fits n h in
-      omega (arith, e, l, d, f)
+      let f = fits p bs n h in
+      let w = good .wires-length in
+      omega (arith, e, l, d, f, w)
 
   -- no call is refused, and each does its gate
   called-are : (n : ℕ) → n ≤ gates bs → called p ksk bsk bs n ws ≡ so-far n
   unfolding called stepAfter
-  called-are zero h = run-none p ksk bsk bs ws inputs-fit
+  called-are zero h = run-none p ksk bsk bs ws within
   called-are (suc n) h =
       let l : n < gates bs = omega (arith, h) in
       let k : n ≤ gates bs = omega (arith, h) in
@@ -188,9 +166,9 @@ module _ (p : Params) (ksk bsk bs ws : List ℕ) (good : StepGood p (length ksk)
       ap (stepAfter p ksk bsk bs n) (called-are n k)
       ∙ when-done _ _ _ (ap (λ (a : Answer). a .number) done)
       ∙ ap (λ (b : Bool). cond b (stepped p ksk bsk bs n (so-far n)) (so-far n)) (lt-ltb n (gates bs) l)
-      ∙ run-more p ksk bsk bs ws inputs-fit n refl
+      ∙ run-more p ksk bsk bs ws within n refl
       ∙ ap (λ (m : ℕ). ciphersTo p ksk bsk bs (take (inputs bs * (p .n + 1)) ws) m ++ drop ((inputs bs + m) * (p .n + 1)) ws) (add-one n)
 
   -- all of them make the run's wires
   pub steps-run : called p ksk bsk bs (gates bs) ws ≡ ciphersOf p ksk bsk bs (take (inputs bs * (p .n + 1)) ws)
-  steps-run = run-end p ksk bsk bs ws inputs-fit (gates bs) (omega arith) (omega arith) (good .wires-length) (called-are (gates bs) (omega arith))
+  steps-run = run-end p ksk bsk bs ws within (gates bs) (omega arith) (omega arith) (good .wires-length) (called-are (gates bs) (omega arith))

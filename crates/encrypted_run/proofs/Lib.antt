@@ -1,10 +1,6 @@
-pub mod Made
-pub mod Ciphers
 pub mod Checks
 pub mod Operands
-pub mod Calls
 pub mod Wires
-pub mod Meanings
 pub mod Unread
 pub mod Laws
 pub mod Examples

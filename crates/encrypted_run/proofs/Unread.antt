@@ -1,51 +1,31 @@
--- A run reads no key row that its gates do not use: two key materials that are alike where the gates look give the same wires. A switching is a sum, and a field
--- that is 0 adds nothing; gate after gate the wires are then the same, by induction on the gates.
+-- A run reads no key row that its gates do not use: two key materials that are alike where the gates look give the same wires. A switching
+-- depends on no row that its fields do not use; gate after gate the wires are then the same, by induction on the gates.
 -- Assumes nothing.
 use mathlib.Core.Path.{_≡_, refl, sym, ap, _∙_}
-use mathlib.Core.Bool.{cond}
 use mathlib.Core.List.{List, _++_}
 use Prim.Native.Nat.{ℕ, zero, suc, _+_, _%_, _<_}
 use native.Mathlib.Omega.{arith}
-use native.Mathlib.Decide.{ℕ-discrete}
-use borrow.Author.Tests.{eq-eqb, ne-eqb}
-use lib.Dec.{eqb}
-use Rattle.ring.specs.Word.{Q, at, neg}
-use Rattle.ring.proofs.Tab.{tab-ext}
-use Rattle.ring.proofs.SumLaws.{sum-ext}
 use Rattle.params.specs.declared.Params.{Params}
-use Rattle.params.specs.Sizes.{size}
-use Rattle.key.specs.Switching.{rowPart}
-use Rattle.switching.specs.Switched.{maskField, used, takes, startWord, switched}
+use Rattle.switching.specs.Switched.{switched}
+use Rattle.switching.proofs.Rows.{used-alike}
 use Rattle.tlwe.specs.Linear.{negative}
-use Rattle.gates.specs.declared.Kind.{Kind}
-use Rattle.gates.specs.declared.Kind.the-variants.{And, AndNy}
-use Rattle.gates.specs.Sum.{summed, muxSum}
+use Rattle.gate_sums.specs.declared.Kind.{Kind}
+use Rattle.gate_sums.specs.declared.Kind.the-variants.{And, AndNy}
+use Rattle.gate_sums.specs.Sum.{summed, muxSum}
 use Rattle.gates.specs.Gate.{rotatedSample, bootstrapped, gated, muxed}
 use Rattle.circuit.specs.Form.{gates, kindAt, operandAt}
-use Rattle.encrypted_run.specs.declared.Way.{Way}
-use Rattle.encrypted_run.specs.declared.Way.the-variants.{Known, Negated, Gate, NegatedGate, Choice}
-use Rattle.encrypted_run.specs.Ways.{wayOf, ran}
-use Rattle.encrypted_run.proofs.Made.{ran-known, ran-negated, ran-gate, ran-negated-gate, ran-choice}
-use Rattle.encrypted_run.specs.Run.{cipherAt, gateCipher, ciphersTo, ciphersOf}
+use Rattle.ways.specs.declared.Way.{Way}
+use Rattle.ways.specs.declared.Way.the-variants.{Known, Negated, Gate, NegatedGate, Choice}
+use Rattle.ways.specs.Ways.{wayOf, ran}
+use Rattle.ways.specs.Ciphers.{cipherAt}
+use Rattle.ways.proofs.Made.{ran-known, ran-negated, ran-gate, ran-negated-gate, ran-choice}
+use Rattle.encrypted_run.specs.Run.{gateCipher, ciphersTo, ciphersOf}
 use Rattle.encrypted_run.specs.Rows.{RowsAlike, Alike, KeysAlike, GateAlike}
-
--- one field: 0 takes nothing, and another takes the row that is alike
-field-alike : (p : Params) (ksk ksk′ sample : List ℕ) → RowsAlike p ksk ksk′ sample → (i j x : ℕ) → i < size p → j < p .t → x < p .n + 1
-    → takes p ksk i j (maskField p sample i j) x ≡ takes p ksk′ i j (maskField p sample i j) x
-unfolding takes used RowsAlike
-field-alike p ksk ksk′ sample h i j x hi hj hx = go (ℕ-discrete (maskField p sample i j) 0)
-  where
-    go : Dec (maskField p sample i j ≡ 0) → cond (eqb (maskField p sample i j) 0) 0 (neg (at (rowPart p ksk i j (maskField p sample i j)) x)) ≡ cond (eqb (maskField p sample i j) 0) 0 (neg (at (rowPart p ksk′ i j (maskField p sample i j)) x))
-    go (yes e) = rw (eq-eqb (maskField p sample i j) 0 e)
-    go (no d) = rw (ne-eqb (maskField p sample i j) 0 d) (ap neg (h i j x hi hj hx d))
 
 -- a switching
 pub switched-alike : (p : Params) (ksk ksk′ sample : List ℕ) → RowsAlike p ksk ksk′ sample → switched p ksk sample ≡ switched p ksk′ sample
-unfolding switched
-switched-alike p ksk ksk′ sample h =
-    tab-ext (p .n + 1) _ _ (λ x hx.
-    ap (λ (s : ℕ). (startWord p (at sample (size p)) x + s) % Q)
-    (sum-ext (size p) _ _ (λ i hi. sum-ext (p .t) _ _ (λ j hj. field-alike p ksk ksk′ sample h i j x hi hj hx))))
+unfolding RowsAlike
+switched-alike p ksk ksk′ sample h = used-alike p ksk ksk′ sample h
 
 -- a gate's bootstrapping
 gated-alike : (p : Params) (kind : Kind) (ksk ksk′ bsk bsk′ a b : List ℕ) → Alike p ksk ksk′ bsk bsk′ (rotatedSample p bsk (summed p kind a b)) → gated p kind ksk bsk a b ≡ gated p kind ksk′ bsk′ a b

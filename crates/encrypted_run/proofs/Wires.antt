@@ -4,7 +4,7 @@
 use mathlib.Core.Path.{_≡_, sym, ap, ap₂, _∙_}
 use mathlib.Core.List.{List, _++_, append-assoc, append-nil}
 use Prim.Native.Nat.{ℕ, zero, suc, _+_, _*_, _-_, _≤_}
-use native.Mathlib.Nat.{add-zero, add-sub-cancel-left, le-antisymm}
+use native.Mathlib.Nat.{mul-le-mul-right, add-zero, add-sub-cancel-left, le-antisymm}
 use native.Mathlib.Numerals.{add-one}
 use native.Mathlib.Omega.{arith}
 use lib.ListN.{length, take, drop, length-append, length-drop, take-append-drop, drop-of-length-le}
@@ -12,22 +12,23 @@ use lib.Seq.{length-take-le, take-at, drop-at, drop-drop}
 use borrow.Rule.Slice.PartMut.{putMid}
 use Rattle.params.specs.declared.Params.{Params}
 use Rattle.circuit.specs.Form.{inputs, gates, wires}
+use Rattle.words.specs.Copy.{copied}
+use Rattle.words.proofs.Loops.{copied-all, copied-front}
 use Rattle.encrypted_run.specs.Run.{gateCipher, ciphersTo, ciphersOf, stepped}
-use Rattle.encrypted_run.proofs.Ciphers.{ran-length}
+use Rattle.ways.proofs.Ciphers.{ran-length}
 use Rattle.ring.specs.Lists.{joined}
 
 -- ---- a list of m words in place w of lists of m words each
 
 -- written over the words that stand there
 pub put-made : (m w : ℕ) (c into : List ℕ) {part : List ℕ} → length c ≡ m → w * m + m ≤ length into
-    → part ≡ c ++ drop (length c) (take (w * m + m - w * m) (drop (w * m) into))
+    → part ≡ copied c (take (w * m + m - w * m) (drop (w * m) into))
     → putMid (w * m) (w * m + m - w * m) into part ≡ take (w * m) into ++ c ++ drop ((w + 1) * m) into
 put-made m w c into {part} lc h e =
     let count : w * m + m - w * m ≡ m = add-sub-cancel-left (w * m) m in
     let there = take (w * m + m - w * m) (drop (w * m) into) in
     let long : length there ≡ w * m + m - w * m = length-take-le (w * m + m - w * m) (drop (w * m) into) (rw (length-drop (w * m) into) (omega arith)) in
-    let over : length there ≤ length c = omega arith in
-    let whole : part ≡ c = e ∙ ap (λ (x : List ℕ). c ++ x) (drop-of-length-le there over) ∙ append-nil c in
+    let whole : part ≡ c = e ∙ copied-all c there (lc ∙ sym count ∙ sym long) in
     let next : w * m + m ≡ (w + 1) * m = omega arith in
     let back : drop (w * m + m - w * m) (drop (w * m) into) ≡ drop ((w + 1) * m) into = ap (λ (k : ℕ). drop k (drop (w * m) into)) count ∙ drop-drop m (w * m) into ∙ ap (λ (k : ℕ). drop k into) next in
     ap₂ (λ (x y : List ℕ). take (w * m) into ++ (x ++ y)) whole back ∙ sym (append-assoc (take (w * m) into) c (drop ((w + 1) * m) into))
@@ -48,6 +49,13 @@ unfolding joined
 joined-next f k = ap (λ (n : ℕ). joined n f) (add-one k)
 
 -- ---- the wires
+
+-- the words of the first wires lie within those of all
+pub fits : (p : Params) (bs : List ℕ) (n : ℕ) → n ≤ gates bs → (inputs bs + n) * (p .n + 1) ≤ wires bs * (p .n + 1)
+fits p bs n h = let l : inputs bs + n ≤ wires bs = omega (arith, h) in mul-le-mul-right (p .n + 1) l
+
+pub inputs-fit : (p : Params) (bs : List ℕ) → inputs bs * (p .n + 1) ≤ wires bs * (p .n + 1)
+inputs-fit p bs = let l : inputs bs ≤ wires bs = omega arith in mul-le-mul-right (p .n + 1) l
 
 module _ (p : Params) (ksk bsk bs : List ℕ) where
   -- every gate has n + 1 words
@@ -117,7 +125,7 @@ unfolding stepped
 step-made p ksk bsk bs ws g {i} {c} {out} ei ec e = e ∙ ap₂ (λ (k : ℕ) (x : List ℕ). take ((k + g) * (p .n + 1)) ws ++ x ++ drop ((k + g + 1) * (p .n + 1)) ws) ei ec
 
 -- the inputs, put in front of the wires
-pub start-made : (p : Params) (ksk bsk bs ins ws : List ℕ) {held out : List ℕ} → length ins ≡ inputs bs * (p .n + 1) → held ≡ ins ++ drop (length ins) ws
+pub start-made : (p : Params) (ksk bsk bs ins ws : List ℕ) {held out : List ℕ} → length ins ≡ inputs bs * (p .n + 1) → length ins ≤ length ws → held ≡ copied ins ws
     → out ≡ ciphersOf p ksk bsk bs (take (inputs bs * (p .n + 1)) held) → out ≡ ciphersOf p ksk bsk bs ins
-start-made p ksk bsk bs ins ws {held} {out} l eh e =
-    e ∙ ap (ciphersOf p ksk bsk bs) (ap (take (inputs bs * (p .n + 1))) eh ∙ take-at ins (drop (length ins) ws) (inputs bs * (p .n + 1)) l)
+start-made p ksk bsk bs ins ws {held} {out} l h eh e =
+    e ∙ ap (ciphersOf p ksk bsk bs) (ap (take (inputs bs * (p .n + 1))) (eh ∙ copied-front ins ws h) ∙ take-at ins (drop (length ins) ws) (inputs bs * (p .n + 1)) l)

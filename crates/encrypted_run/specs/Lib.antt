@@ -1,4 +1,4 @@
-pub mod Ways
 pub mod Refusals
 pub mod Run
 pub mod Rows
+pub mod Private

@@ -6,14 +6,11 @@ use lib.ListN.{length, take, drop}
 use Rattle.params.specs.declared.Params.{Params}
 use Rattle.params.specs.Refusal.{ifDone}
 use Rattle.circuit.specs.Form.{inputs, gates, outputs, kindAt, operandAt, outputAt}
-use Rattle.encrypted_run.specs.Ways.{wayOf, ran}
+use Rattle.ways.specs.Ways.{wayOf, ran}
+use Rattle.ways.specs.Ciphers.{cipherAt}
 use Rattle.encrypted_run.specs.Refusals.{encryptedAnswer, stepAnswer}
 use mathlib.Core.Bool.{cond}
 use Rattle.ring.specs.Lists.{joined}
-
--- The ciphertext of wire w among ciphertexts one after another, n + 1 words each.
-unfoldable pub cipherAt : Params → List ℕ → ℕ → List ℕ
-cipherAt p ws w = take (p .n + 1) (drop (w * (p .n + 1)) ws)
 
 -- The ciphertext of gate g, those of the wires before it being ws: its kind's way on its operands' ciphertexts.
 unfoldable pub gateCipher : Params → List ℕ → List ℕ → List ℕ → List ℕ → ℕ → List ℕ
@@ -44,12 +41,13 @@ unfoldable pub outputsAfter : Params → List ℕ → List ℕ → List ℕ → 
 outputsAfter p ksk bsk bs ins ws out =
     ifDone (encryptedAnswer p (length ksk) (length bsk) bs (length ins) (length ws) (length out) .number) (outputCiphers p bs (ciphersOf p ksk bsk bs ins)) out
 
+-- The ciphertexts of the wires before gate g.
+abbrev pub wiresBefore : Params → List ℕ → ℕ → List ℕ → List ℕ
+wiresBefore p bs g ws = take ((inputs bs + g) * (p .n + 1)) ws
+
 -- Gate g's ciphertext in its place among the wires', the wires before it being there.
 unfoldable pub stepped : Params → List ℕ → List ℕ → List ℕ → ℕ → List ℕ → List ℕ
-stepped p ksk bsk bs g ws =
-    take ((inputs bs + g) * (p .n + 1)) ws
-    ++ gateCipher p ksk bsk bs (take ((inputs bs + g) * (p .n + 1)) ws) g
-    ++ drop ((inputs bs + g + 1) * (p .n + 1)) ws
+stepped p ksk bsk bs g ws = wiresBefore p bs g ws ++ gateCipher p ksk bsk bs (wiresBefore p bs g ws) g ++ drop ((inputs bs + g + 1) * (p .n + 1)) ws
 
 -- The wires' slice, which held ws, after one gate of a run; a circuit that has no gate g leaves it as it was.
 unfoldable pub stepAfter : Params → List ℕ → List ℕ → List ℕ → ℕ → List ℕ → List ℕ

@@ -1,103 +1,75 @@
-// The encrypted run of a circuit (01, 'Circuits'): every wire's ciphertext, gate after gate, and then the outputs'. It stands above `gates` and
+// The encrypted run of a circuit (01, 'Circuits'): every wire's ciphertext, gate after gate, and then the outputs'. It stands above `ways` and
 // `circuit`; one gate of a run is a routine of its own, since a run of 1,024 gates takes long.
 ghost use mathlib.Core.Path.{_≡_};
-ghost use Prim.Native.Nat.{_+_, _*_, _≤_};
 ghost use lib.ListN.{length};
-ghost use Rattle.params.specs.Ranges.{paramsNumber};
-ghost use Rattle.circuit.specs.Valid.{Valid};
-ghost use Rattle.encrypted_run.specs.Refusals.{materialNumber, wiresNumber, ciphersNumber, encryptedAnswer, stepAnswer};
+ghost use Rattle.encrypted_run.specs.Refusals.{around, lengthsOf, materialNumber, encryptedAnswer, stepAnswer};
 ghost use Rattle.encrypted_run.specs.Run.{wiresAfter, outputsAfter, stepAfter};
-use gates::Kind;
 use params::Answer;
 use params::Params;
 
-mod slices;
 mod steps;
-mod ways;
 
-pub use ways::way_of;
+// The numbers of a circuit's inputs and wires, and the words of the inputs', the wires' and the outputs' ciphertexts.
+pub struct Lengths {
+    pub inputs: usize,
+    pub wires: usize,
+    pub ins: usize,
+    pub held: usize,
+    pub outs: usize,
+}
 
-// How a gate of a circuit is run on ciphertexts: a known bit, the first operand negated, a two-input gate, one whose result is negated, or a choice by the
-// first operand.
-pub enum Way {
-    Known(bool),
-    Negated,
-    Gate(Kind),
-    NegatedGate(Kind),
-    Choice,
+// The answer of a call on a circuit, from the refusals of what does not depend on the circuit and of what does: the circuit's own goes between.
+pub fn around(before: u32, bytes: &[u8], after: u32) -> Answer
+    ensures { λ r. ⌜ r ≡ around before (now (bytes .entry)) after ⌝ }
+{
+    if before != 0 {
+        return Answer {
+            number: before,
+            place: 0,
+        };
+    }
+    let own = circuit::check(bytes);
+    if own.number != 0 {
+        return own;
+    }
+    Answer {
+        number: after,
+        place: 0,
+    }
+}
+
+// What a circuit's counts ask of the slices of a run, whatever the parameters and the bytes.
+pub fn lengths_of(p: Params, bytes: &[u8]) -> Lengths
+    ensures { λ r. ⌜ r ≡ lengthsOf p (now (bytes .entry)) ⌝ }
+{
+    let shape = circuit::counts(bytes);
+    let words = p.n as usize + 1;
+    let wires = shape.inputs + shape.gates;
+    Lengths {
+        inputs: shape.inputs,
+        wires,
+        ins: shape.inputs * words,
+        held: wires * words,
+        outs: shape.outputs * words,
+    }
 }
 
 // The refusal of the parameters and of both keys' lengths, or 0.
-fn keys_number(p: Params, lk: usize, ls: usize) -> u32
+fn material_number(p: Params, lk: usize, ls: usize) -> u32
     ensures { λ r. ⌜ r ≡ materialNumber p lk ls ⌝ }
 {
     let s = params::sizes_of(p);
-    if s.number != 0 {
-        return 1;
-    }
-    if lk != s.ksk {
-        return 2;
-    }
-    if ls != s.bsk {
-        return 2;
-    }
-    0
-}
-
-// The words of so many ciphertexts.
-fn cipher_words(p: Params, count: usize) -> usize
-    requires { ⌜ (paramsNumber p ≡ 0) × (count ≤ 1280) ⌝ }
-    ensures { λ r. ⌜ r ≡ count * (p .n + 1) ⌝ }
-{
-    let words = p.n as usize + 1;
-    count * words
-}
-
-// The refusal of the wires' length, or 0.
-fn wires_number(p: Params, bytes: &[u8], lw: usize) -> u32
-    requires { ⌜ (paramsNumber p ≡ 0) × Valid (now bytes) ⌝ }
-    ensures { λ r. ⌜ r ≡ wiresNumber p (now (bytes .entry)) lw ⌝ }
-{
-    let shape = circuit::counts(bytes);
-    let wires = shape.inputs + shape.gates;
-    if lw != cipher_words(p, wires) {
-        return 2;
-    }
-    0
-}
-
-// The refusal of the lengths that depend on the circuit, or 0.
-fn ciphers_number(p: Params, bytes: &[u8], li: usize, lw: usize, lo: usize) -> u32
-    requires { ⌜ (paramsNumber p ≡ 0) × Valid (now bytes) ⌝ }
-    ensures { λ r. ⌜ r ≡ ciphersNumber p (now (bytes .entry)) li lw lo ⌝ }
-{
-    let shape = circuit::counts(bytes);
-    if li != cipher_words(p, shape.inputs) {
-        return 2;
-    }
-    if lo != cipher_words(p, shape.outputs) {
-        return 2;
-    }
-    wires_number(p, bytes, lw)
+    let number = refusals::is(s.number, lk, s.ksk, 2);
+    refusals::is(number, ls, s.bsk, 2)
 }
 
 // The answer of one gate of a run: the keys', the circuit's, then 2 for the wires' length.
 fn step_answer(p: Params, lk: usize, ls: usize, bytes: &[u8], lw: usize) -> Answer
     ensures { λ r. ⌜ r ≡ stepAnswer p lk ls (now (bytes .entry)) lw ⌝ }
 {
-    let number = keys_number(p, lk, ls);
-    if number != 0 {
-        return Answer { number, place: 0 };
-    }
-    let answer = circuit::check(bytes);
-    if answer.number != 0 {
-        return answer;
-    }
-    let last = wires_number(p, bytes, lw);
-    Answer {
-        number: last,
-        place: 0,
-    }
+    let t = lengths_of(p, bytes);
+    let last = refusals::is(0, lw, t.held, 2);
+    around(material_number(p, lk, ls), bytes, last)
 }
 
 // The answer of a run: the keys', the circuit's, then 2 for the lengths that depend on it.
@@ -112,22 +84,11 @@ fn run_answer(
 ) -> Answer
     ensures { λ r. ⌜ r ≡ encryptedAnswer p lk ls (now (bytes .entry)) li lw lo ⌝ }
 {
-    let first = keys_number(p, lk, ls);
-    if first != 0 {
-        return Answer {
-            number: first,
-            place: 0,
-        };
-    }
-    let answer = circuit::check(bytes);
-    if answer.number != 0 {
-        return answer;
-    }
-    let last = ciphers_number(p, bytes, li, lw, lo);
-    Answer {
-        number: last,
-        place: 0,
-    }
+    let t = lengths_of(p, bytes);
+    let last = refusals::is(0, li, t.ins, 2);
+    let last = refusals::is(last, lo, t.outs, 2);
+    let last = refusals::is(last, lw, t.held, 2);
+    around(material_number(p, lk, ls), bytes, last)
 }
 
 // Gate g of a run, from the wires before it into its own. Where the circuit has no gate g there is nothing to do. Refusals: 1, 2, 6 to 10, 2.

@@ -7,15 +7,23 @@ ghost use lib.ListN.{length, take, drop};
 ghost use Rattle.params.specs.Ranges.{paramsNumber};
 ghost use Rattle.circuit.specs.Form.{inputs, gates, outputs};
 ghost use Rattle.circuit.specs.Valid.{Valid};
-ghost use Rattle.encrypted_run.specs.Refusals.{StepGood, RunGood};
-ghost use Rattle.encrypted_run.specs.Run.{gateCipher, ciphersTo, ciphersOf, outputCiphers, stepped};
-use crate::slices::ciphertext;
-use crate::slices::put_at;
-use crate::slices::put_front;
-use crate::ways::way_into;
-use crate::ways::way_of;
-use params::Params;
 ghost use mathlib.Core.Bool.{cond};
+ghost use Rattle.ways.specs.Private.{Within};
+ghost use Rattle.encrypted_run.specs.Private.{StepGood, RunGood};
+ghost use Rattle.encrypted_run.specs.Run.{gateCipher, ciphersOf, outputCiphers, wiresBefore, stepped};
+use params::Params;
+use ways::ciphertext;
+
+// The ciphertext c in the place of wire w.
+fn put_at(p: Params, c: &[u32], w: usize, into: &mut [u32])
+    requires { ⌜ (paramsNumber p ≡ 0) × (length (now c) ≡ p .n + 1) × Within p w (length (now into)) ⌝ }
+    ensures { λ _. ⌜ now (into .exit) ≡ take (w * (p .n + 1)) (now (into .entry)) ++ now (c .entry) ++ drop ((w + 1) * (p .n + 1)) (now (into .entry)) ⌝ }
+{
+    let words = p.n as usize + 1;
+    let from = w * words;
+    let to = from + words;
+    words::copy(c, &mut into[from..to]);
+}
 
 // Gate g's ciphertext, from those of the wires before it.
 fn gate_into(
@@ -28,15 +36,16 @@ fn gate_into(
     out: &mut [u32],
 )
     requires { ⌜ StepGood p (length (now ksk)) (length (now bsk)) (now bytes) (length (now wires)) × (g < gates (now bytes)) × (length (now out) ≡ p .n + 1) ⌝ }
-    ensures { λ _. ⌜ now (out .exit) ≡ gateCipher p (now (ksk .entry)) (now (bsk .entry)) (now (bytes .entry)) (take ((inputs (now (bytes .entry)) + g) * (p .n + 1)) (now (wires .entry))) g ⌝ }
+    ensures { λ _. ⌜ now (out .exit) ≡ gateCipher p (now (ksk .entry)) (now (bsk .entry)) (now (bytes .entry)) (wiresBefore p (now (bytes .entry)) g (now (wires .entry))) g ⌝ }
 {
     let shape = circuit::counts(bytes);
     let end = (shape.inputs + g) * out.len();
-    let way = way_of(circuit::kind_at(bytes, g));
-    let x = circuit::operand_at(bytes, g, 0);
-    let y = circuit::operand_at(bytes, g, 1);
-    let z = circuit::operand_at(bytes, g, 2);
-    way_into(p, way, &wires[..end], x, y, z, ksk, bsk, out);
+    let before = &wires[..end];
+    let way = ways::way_of(circuit::kind_at(bytes, g));
+    let x = ciphertext(p, before, circuit::operand_at(bytes, g, 0));
+    let y = ciphertext(p, before, circuit::operand_at(bytes, g, 1));
+    let z = ciphertext(p, before, circuit::operand_at(bytes, g, 2));
+    ways::run_way(p, way, x, y, z, ksk, bsk, out);
 }
 
 // Gate g's ciphertext in the scratch c, and then in its place.
@@ -129,7 +138,7 @@ pub(crate) fn run_into(
     ensures held { λ _. ⌜ now (wires .exit) ≡ ciphersOf p (now (ksk .entry)) (now (bsk .entry)) (now (bytes .entry)) (now (ins .entry)) ⌝ }
     ensures written { λ _. ⌜ now (out .exit) ≡ outputCiphers p (now (bytes .entry)) (ciphersOf p (now (ksk .entry)) (now (bsk .entry)) (now (bytes .entry)) (now (ins .entry))) ⌝ }
 {
-    put_front(ins, wires);
+    words::copy(ins, wires);
     all_into(p, ksk, bsk, bytes, wires);
     outputs_into(p, bytes, wires, out);
 }

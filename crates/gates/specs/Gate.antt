@@ -4,19 +4,13 @@ use Prim.Native.Nat.{ℕ, _+_}
 use lib.ListN.{length}
 use Rattle.params.specs.declared.Params.{Params}
 use Rattle.params.specs.Refusal.{ifDone}
-use Rattle.params.specs.Sizes.{size}
 use Rattle.tlwe.specs.Linear.{negative}
-use Rattle.trlwe.specs.Extract.{extracted}
-use Rattle.blind_rotation.specs.Blind.{blindRotated, testPair}
 use Rattle.switching.specs.Switched.{switched}
-use Rattle.gates.specs.declared.Kind.{Kind}
-use Rattle.gates.specs.declared.Kind.the-variants.{Or, And, AndNy}
-use Rattle.gates.specs.Sum.{summed, muxSum}
+use Rattle.gate_sums.specs.declared.Kind.{Kind}
+use Rattle.gate_sums.specs.declared.Kind.the-variants.{Or, And, AndNy}
+use Rattle.gate_sums.specs.Sum.{summed, muxSum}
+unfoldable pub use Rattle.samples.specs.Sample.{rotatedSample}
 use Rattle.gates.specs.Refusals.{gateNumber, muxNumber}
-
--- The sample of level 1 that is extracted at 0 once the sum src is rotated.
-unfoldable pub rotatedSample : Params → List ℕ → List ℕ → List ℕ
-rotatedSample p bsk src = extracted (size p) 0 (blindRotated p bsk src (testPair p) .a) (blindRotated p bsk src (testPair p) .b)
 
 -- The bootstrapping of the sum src (src/bootstrap/vanilla.rs): rotated, extracted at 0, switched.
 unfoldable pub bootstrapped : Params → List ℕ → List ℕ → List ℕ → List ℕ
@@ -36,7 +30,7 @@ muxedNaive p ksk bsk a b c = gated p Or ksk bsk (gated p And ksk bsk a b) (gated
 
 -- What a two-input gate leaves in out, which held o.
 abbrev pub gateOut : Params → Kind → List ℕ → List ℕ → List ℕ → List ℕ → List ℕ → List ℕ
-gateOut p kind a b ksk bsk o = ifDone (gateNumber p (length a) (length b) (length ksk) (length bsk) (length o)) (gated p kind ksk bsk a b) o
+gateOut p kind a b ksk bsk o = ifDone (gateNumber p (length a) (length b) (length ksk) (length bsk) (length o)) (bootstrapped p bsk ksk (summed p kind a b)) o
 
 -- What `mux` leaves there, and with muxedNaive for muxed what `mux_naive` does.
 abbrev pub muxOut : (Params → List ℕ → List ℕ → List ℕ → List ℕ → List ℕ → List ℕ) → Params → List ℕ → List ℕ → List ℕ → List ℕ → List ℕ → List ℕ → List ℕ

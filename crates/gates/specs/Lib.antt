@@ -1,4 +1,3 @@
-pub mod Kind
-pub mod Sum
 pub mod Refusals
+pub mod Private
 pub mod Gate

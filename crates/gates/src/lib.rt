@@ -1,59 +1,25 @@
-// The gates (src/gates.rs): sums of ciphertexts, rotated, extracted and switched, and the gates that need no rotation. The decomposition offset and
-// the test vector are worked out on the way and never lent (01, key).
+// A two-input gate (src/gates.rs): its sample, switched back to level 0.
 ghost use mathlib.Core.Path.{_≡_};
 ghost use lib.ListN.{length};
 ghost use Rattle.params.specs.Refusal.{answer};
-ghost use Rattle.gates.specs.declared.Kind.the-variants.{Nand, Or, And, Nor, AndNy, AndYn, OrNy, OrYn, Xor, Xnor};
-ghost use Rattle.gates.specs.Refusals.{gateNumber, muxNumber};
-ghost use Rattle.gates.specs.Gate.{muxed, muxedNaive, gateOut, muxOut};
+ghost use Rattle.gates.specs.Refusals.{gateNumber};
+ghost use Rattle.gates.specs.Gate.{gateOut};
+use gate_sums::Kind;
 use params::Answer;
 use params::Params;
 
 mod boot;
-mod sums;
-pub mod wires;
-
-pub use sums::Weights;
-pub use sums::weights_of;
-
-// The two-input gates. What each sums and means stands in one table, specs/Kind.antt.
-pub enum Kind {
-    Nand,
-    Or,
-    And,
-    Nor,
-    AndNy,
-    AndYn,
-    OrNy,
-    OrYn,
-    Xor,
-    Xnor,
-}
 
 // The refusal of a two-input gate, or 0.
 fn gate_number(p: Params, la: usize, lb: usize, lk: usize, ls: usize, lo: usize) -> u32
     ensures { λ r. ⌜ r ≡ gateNumber p la lb lk ls lo ⌝ }
 {
     let s = params::sizes_of(p);
-    if s.number != 0 {
-        return 1;
-    }
-    if la != s.level0 {
-        return 2;
-    }
-    if lb != s.level0 {
-        return 2;
-    }
-    if lk != s.ksk {
-        return 2;
-    }
-    if ls != s.bsk {
-        return 2;
-    }
-    if lo != s.level0 {
-        return 2;
-    }
-    0
+    let number = refusals::is(s.number, la, s.level0, 2);
+    let number = refusals::is(number, lb, s.level0, 2);
+    let number = refusals::is(number, lk, s.ksk, 2);
+    let number = refusals::is(number, ls, s.bsk, 2);
+    refusals::is(number, lo, s.level0, 2)
 }
 
 // A two-input gate: its kind's sum of a and b, rotated, extracted at 0 and switched. Refusals: 1, 2.
@@ -72,171 +38,6 @@ pub fn gate(
     let number = gate_number(p, a.len(), b.len(), ksk.len(), bsk.len(), out.len());
     if number == 0 {
         boot::put_gate(p, kind, a, b, ksk, bsk, out);
-    }
-    Answer { number, place: 0 }
-}
-
-// Not (a and b).
-pub fn nand(p: Params, a: &[u32], b: &[u32], ksk: &[u32], bsk: &[u32], out: &mut [u32]) -> Answer
-    ensures said { λ r. ⌜ r ≡ answer (gateNumber p (length (now (a .entry))) (length (now (b .entry))) (length (now (ksk .entry))) (length (now (bsk .entry))) (length (now (out .entry)))) ⌝ }
-    ensures written { λ r. ⌜ now (out .exit) ≡ gateOut p Nand (now (a .entry)) (now (b .entry)) (now (ksk .entry)) (now (bsk .entry)) (now (out .entry)) ⌝ }
-{
-    gate(p, Kind::Nand, a, b, ksk, bsk, out)
-}
-
-// A or b.
-pub fn or(p: Params, a: &[u32], b: &[u32], ksk: &[u32], bsk: &[u32], out: &mut [u32]) -> Answer
-    ensures said { λ r. ⌜ r ≡ answer (gateNumber p (length (now (a .entry))) (length (now (b .entry))) (length (now (ksk .entry))) (length (now (bsk .entry))) (length (now (out .entry)))) ⌝ }
-    ensures written { λ r. ⌜ now (out .exit) ≡ gateOut p Or (now (a .entry)) (now (b .entry)) (now (ksk .entry)) (now (bsk .entry)) (now (out .entry)) ⌝ }
-{
-    gate(p, Kind::Or, a, b, ksk, bsk, out)
-}
-
-// A and b.
-pub fn and(p: Params, a: &[u32], b: &[u32], ksk: &[u32], bsk: &[u32], out: &mut [u32]) -> Answer
-    ensures said { λ r. ⌜ r ≡ answer (gateNumber p (length (now (a .entry))) (length (now (b .entry))) (length (now (ksk .entry))) (length (now (bsk .entry))) (length (now (out .entry)))) ⌝ }
-    ensures written { λ r. ⌜ now (out .exit) ≡ gateOut p And (now (a .entry)) (now (b .entry)) (now (ksk .entry)) (now (bsk .entry)) (now (out .entry)) ⌝ }
-{
-    gate(p, Kind::And, a, b, ksk, bsk, out)
-}
-
-// Not (a or b).
-pub fn nor(p: Params, a: &[u32], b: &[u32], ksk: &[u32], bsk: &[u32], out: &mut [u32]) -> Answer
-    ensures said { λ r. ⌜ r ≡ answer (gateNumber p (length (now (a .entry))) (length (now (b .entry))) (length (now (ksk .entry))) (length (now (bsk .entry))) (length (now (out .entry)))) ⌝ }
-    ensures written { λ r. ⌜ now (out .exit) ≡ gateOut p Nor (now (a .entry)) (now (b .entry)) (now (ksk .entry)) (now (bsk .entry)) (now (out .entry)) ⌝ }
-{
-    gate(p, Kind::Nor, a, b, ksk, bsk, out)
-}
-
-// (not a) and b.
-pub fn and_ny(p: Params, a: &[u32], b: &[u32], ksk: &[u32], bsk: &[u32], out: &mut [u32]) -> Answer
-    ensures said { λ r. ⌜ r ≡ answer (gateNumber p (length (now (a .entry))) (length (now (b .entry))) (length (now (ksk .entry))) (length (now (bsk .entry))) (length (now (out .entry)))) ⌝ }
-    ensures written { λ r. ⌜ now (out .exit) ≡ gateOut p AndNy (now (a .entry)) (now (b .entry)) (now (ksk .entry)) (now (bsk .entry)) (now (out .entry)) ⌝ }
-{
-    gate(p, Kind::AndNy, a, b, ksk, bsk, out)
-}
-
-// A and (not b).
-pub fn and_yn(p: Params, a: &[u32], b: &[u32], ksk: &[u32], bsk: &[u32], out: &mut [u32]) -> Answer
-    ensures said { λ r. ⌜ r ≡ answer (gateNumber p (length (now (a .entry))) (length (now (b .entry))) (length (now (ksk .entry))) (length (now (bsk .entry))) (length (now (out .entry)))) ⌝ }
-    ensures written { λ r. ⌜ now (out .exit) ≡ gateOut p AndYn (now (a .entry)) (now (b .entry)) (now (ksk .entry)) (now (bsk .entry)) (now (out .entry)) ⌝ }
-{
-    gate(p, Kind::AndYn, a, b, ksk, bsk, out)
-}
-
-// (not a) or b.
-pub fn or_ny(p: Params, a: &[u32], b: &[u32], ksk: &[u32], bsk: &[u32], out: &mut [u32]) -> Answer
-    ensures said { λ r. ⌜ r ≡ answer (gateNumber p (length (now (a .entry))) (length (now (b .entry))) (length (now (ksk .entry))) (length (now (bsk .entry))) (length (now (out .entry)))) ⌝ }
-    ensures written { λ r. ⌜ now (out .exit) ≡ gateOut p OrNy (now (a .entry)) (now (b .entry)) (now (ksk .entry)) (now (bsk .entry)) (now (out .entry)) ⌝ }
-{
-    gate(p, Kind::OrNy, a, b, ksk, bsk, out)
-}
-
-// A or (not b).
-pub fn or_yn(p: Params, a: &[u32], b: &[u32], ksk: &[u32], bsk: &[u32], out: &mut [u32]) -> Answer
-    ensures said { λ r. ⌜ r ≡ answer (gateNumber p (length (now (a .entry))) (length (now (b .entry))) (length (now (ksk .entry))) (length (now (bsk .entry))) (length (now (out .entry)))) ⌝ }
-    ensures written { λ r. ⌜ now (out .exit) ≡ gateOut p OrYn (now (a .entry)) (now (b .entry)) (now (ksk .entry)) (now (bsk .entry)) (now (out .entry)) ⌝ }
-{
-    gate(p, Kind::OrYn, a, b, ksk, bsk, out)
-}
-
-// A xor b.
-pub fn xor(p: Params, a: &[u32], b: &[u32], ksk: &[u32], bsk: &[u32], out: &mut [u32]) -> Answer
-    ensures said { λ r. ⌜ r ≡ answer (gateNumber p (length (now (a .entry))) (length (now (b .entry))) (length (now (ksk .entry))) (length (now (bsk .entry))) (length (now (out .entry)))) ⌝ }
-    ensures written { λ r. ⌜ now (out .exit) ≡ gateOut p Xor (now (a .entry)) (now (b .entry)) (now (ksk .entry)) (now (bsk .entry)) (now (out .entry)) ⌝ }
-{
-    gate(p, Kind::Xor, a, b, ksk, bsk, out)
-}
-
-// A xor b too, and not its negation: that is what the Rust's `xnor` computes (specs/Kind.antt).
-pub fn xnor(p: Params, a: &[u32], b: &[u32], ksk: &[u32], bsk: &[u32], out: &mut [u32]) -> Answer
-    ensures said { λ r. ⌜ r ≡ answer (gateNumber p (length (now (a .entry))) (length (now (b .entry))) (length (now (ksk .entry))) (length (now (bsk .entry))) (length (now (out .entry)))) ⌝ }
-    ensures written { λ r. ⌜ now (out .exit) ≡ gateOut p Xnor (now (a .entry)) (now (b .entry)) (now (ksk .entry)) (now (bsk .entry)) (now (out .entry)) ⌝ }
-{
-    gate(p, Kind::Xnor, a, b, ksk, bsk, out)
-}
-
-// The refusal of `mux` and `mux_naive`, or 0.
-fn mux_number(p: Params, la: usize, lb: usize, lc: usize, lk: usize, ls: usize, lo: usize) -> u32
-    ensures { λ r. ⌜ r ≡ muxNumber p la lb lc lk ls lo ⌝ }
-{
-    let s = params::sizes_of(p);
-    if s.number != 0 {
-        return 1;
-    }
-    if la != s.level0 {
-        return 2;
-    }
-    if lb != s.level0 {
-        return 2;
-    }
-    if lc != s.level0 {
-        return 2;
-    }
-    if lk != s.ksk {
-        return 2;
-    }
-    if ls != s.bsk {
-        return 2;
-    }
-    if lo != s.level0 {
-        return 2;
-    }
-    0
-}
-
-// a ? b : c, with two rotations and one key switching. Refusals: 1, 2.
-pub fn mux(
-    p: Params,
-    a: &[u32],
-    b: &[u32],
-    c: &[u32],
-    ksk: &[u32],
-    bsk: &[u32],
-    out: &mut [u32],
-) -> Answer
-    ensures said { λ r. ⌜ r ≡ answer (muxNumber p (length (now (a .entry))) (length (now (b .entry))) (length (now (c .entry))) (length (now (ksk .entry))) (length (now (bsk .entry))) (length (now (out .entry)))) ⌝ }
-    ensures written { λ r. ⌜ now (out .exit) ≡ muxOut muxed p (now (a .entry)) (now (b .entry)) (now (c .entry)) (now (ksk .entry)) (now (bsk .entry)) (now (out .entry)) ⌝ }
-{
-    let number = mux_number(
-        p,
-        a.len(),
-        b.len(),
-        c.len(),
-        ksk.len(),
-        bsk.len(),
-        out.len(),
-    );
-    if number == 0 {
-        boot::put_mux(p, a, b, c, ksk, bsk, out);
-    }
-    Answer { number, place: 0 }
-}
-
-// a ? b : c by three gates, or(and(a, b), and(not a, c)). Refusals: 1, 2.
-pub fn mux_naive(
-    p: Params,
-    a: &[u32],
-    b: &[u32],
-    c: &[u32],
-    ksk: &[u32],
-    bsk: &[u32],
-    out: &mut [u32],
-) -> Answer
-    ensures said { λ r. ⌜ r ≡ answer (muxNumber p (length (now (a .entry))) (length (now (b .entry))) (length (now (c .entry))) (length (now (ksk .entry))) (length (now (bsk .entry))) (length (now (out .entry)))) ⌝ }
-    ensures written { λ r. ⌜ now (out .exit) ≡ muxOut muxedNaive p (now (a .entry)) (now (b .entry)) (now (c .entry)) (now (ksk .entry)) (now (bsk .entry)) (now (out .entry)) ⌝ }
-{
-    let number = mux_number(
-        p,
-        a.len(),
-        b.len(),
-        c.len(),
-        ksk.len(),
-        bsk.len(),
-        out.len(),
-    );
-    if number == 0 {
-        boot::put_mux_naive(p, a, b, c, ksk, bsk, out);
     }
     Answer { number, place: 0 }
 }

@@ -1,55 +1,30 @@
--- The refusals of this crate's routines: what the record of lengths tells of the parameters, and what arguments that are not refused have.
+-- The refusals of this crate's routines: what arguments that are not refused have, and that such arguments are not refused, from the tables' laws.
 -- Assumes nothing.
-use mathlib.Core.Path.{_≡_, refl, sym, ap, _∙_}
-use Prim.Native.Nat.{ℕ, _+_, _*_, _-_, _^_, _≤_, _<_}
+use mathlib.Core.Path.{_≡_, refl, ap, _∙_}
+use Prim.Native.Nat.{ℕ, _%_, _<_}
 use native.Mathlib.Decide.{ℕ-discrete}
-use native.Mathlib.Omega.{arith}
-use mathlib.Core.Bool.{Bool, true, false}
-use mathlib.Core.List.{List}
-use borrow.Author.Tests.{eqb-true, ltb-true, eq-eqb, ne-eqb, lt-ltb}
-use lib.Dec.{lit<}
+use mathlib.Core.Bool.{true}
+use mathlib.Core.List.{List, [], _∷_}
+use borrow.Author.Tests.{ne-eqb}
 use lib.ListN.{length}
+use Rattle.ring.specs.Word.{Q}
 use Rattle.params.specs.declared.Params.{Params}
 use Rattle.params.specs.declared.Sizes.{Sizes}
 use Rattle.params.specs.Ranges.{paramsNumber, InRange}
-use Rattle.params.specs.Refusal.{check}
-use Rattle.params.specs.Sizes.{size, base, drawingRows, bitWords, sizesOf, sizesIn, switchingWords, bootstrappingWords}
-use Rattle.params.proofs.Answers.{passed, when-done}
-use Rattle.params.proofs.Ranges.{in-range, sizes-good, sizes-number}
+use Rattle.params.specs.Sizes.{size, base, bitWords, sizesOf, sizesIn, switchingWords, bootstrappingWords}
+use Rattle.params.proofs.Answers.{when-done}
+use Rattle.params.proofs.Ranges.{in-range, sizes-good}
 use Rattle.key.specs.Offset.{offset, offsetOut}
-use Rattle.key.specs.Testvec.{testNumber}
-use Rattle.tlwe.specs.Key.{binary, keyNumber}
-use Rattle.key.specs.Switching.{lookupNumber}
-use Rattle.key.specs.Bits.{bitRowsNumber}
-use Rattle.key.specs.Generation.{Lent, generateNumber}
-
-module _ (p : Params) {s : Sizes} (e : s ≡ sizesOf p) where
-  pub sized : s .number ≡ 0 → paramsNumber p ≡ 0
-  sized z = sizes-number p (ap (λ (x : Sizes). x .number) (sym e) ∙ z)
-
-  pub unsized : (s .number ≡ 0 → ⊥) → paramsNumber p ≡ 0 → ⊥
-  unsized h z = h (ap (λ (x : Sizes). x .number) (e ∙ sizes-good p z))
-
-  pub lengths : s .number ≡ 0 → s ≡ sizesIn p
-  lengths z = e ∙ sizes-good p (sized z)
-
-  pub size-of : s .number ≡ 0 → s .size ≡ size p
-  size-of z = ap (λ (x : Sizes). x .size) (lengths z)
-
-  pub n-of : s .number ≡ 0 → s .n ≡ p .n
-  n-of z = ap (λ (x : Sizes). x .n) (lengths z)
-
-  pub masks-of : s .number ≡ 0 → s .kskmasks ≡ drawingRows p * p .n
-  masks-of z = ap (λ (x : Sizes). x .kskmasks) (lengths z)
-
-  pub noise-of : s .number ≡ 0 → s .ksknoise ≡ drawingRows p
-  noise-of z = ap (λ (x : Sizes). x .ksknoise) (lengths z)
-
-  pub key-of : s .number ≡ 0 → s .ksk ≡ switchingWords p
-  key-of z = ap (λ (x : Sizes). x .ksk) (lengths z)
-
-  pub bits-of : s .number ≡ 0 → s .bsk ≡ bootstrappingWords p
-  bits-of z = ap (λ (x : Sizes). x .bsk) (lengths z)
+use Rattle.key.specs.Testvec.{testChecks, testNumber}
+use Rattle.tlwe.specs.Key.{binary}
+use Rattle.refusals.specs.Table.{Check, is, below, refusalBy}
+use Rattle.refusals.specs.Private.{chain}
+use Rattle.refusals.proofs.Table.{chained, good, done}
+use Rattle.key.specs.Switching.{lookupChecks, lookupNumber}
+use Rattle.key.specs.Bits.{bitRowsChecks, bitRowsNumber}
+use Rattle.key.specs.Generation.{generateChecks, generateNumber}
+use Rattle.key.specs.Private.{Lent}
+use Rattle.key.proofs.Rows.{base-code}
 
 -- one bit's words, from the record of lengths
 pub bit-of : (p : Params) → paramsNumber p ≡ 0 → {s : Sizes} → s ≡ sizesOf p → s .bit ≡ bitWords p
@@ -71,16 +46,12 @@ pub record TestGood (p : Params) (a b : ℕ) : Type 0 where
 
 pub test-good : (p : Params) (a b : ℕ) → testNumber p a b ≡ 0 → TestGood p a b
 unfolding testNumber
-test-good p a b e =
-    let s1 = passed _ _ _ (lit< tt) e in
-    let s2 = passed _ _ _ (lit< tt) (s1 .1) in
-    let s3 = passed _ _ _ (lit< tt) (s2 .1) in
-    record { range = in-range p (eqb-true _ _ (s1 .0)); first = eqb-true _ _ (s2 .0); second = eqb-true _ _ (s3 .0) }
+test-good p a b e = let f = good p (testChecks p a b) refl e in record { range = in-range p (f .0); first = f .1 .0; second = f .1 .1 .0 }
 
 -- for callers: good arguments are not refused
 pub test-done : (p : Params) → paramsNumber p ≡ 0 → testNumber p (size p) (size p) ≡ 0
 unfolding testNumber
-test-done p e = simp (eq-eqb (paramsNumber p) 0 e, eq-eqb (size p) (size p) refl)
+test-done p e = done p (testChecks p (size p) (size p)) (e, (refl, (refl, tt)))
 
 -- ---- the lookup of a row
 
@@ -94,24 +65,26 @@ pub record LookupGood (p : Params) (len i j k : ℕ) : Type 0 where
 pub lookup-good : (p : Params) (len i j k : ℕ) → lookupNumber p len i j k ≡ 0 → LookupGood p len i j k
 unfolding lookupNumber
 lookup-good p len i j k e =
-    let s1 = passed _ _ _ (lit< tt) e in
-    let s2 = passed _ _ _ (lit< tt) (s1 .1) in
-    let s3 = passed _ _ _ (lit< tt) (s2 .1) in
-    let s4 = passed _ _ _ (lit< tt) (s3 .1) in
-    let s5 = passed _ _ _ (lit< tt) (s4 .1) in
-    record {
-      range = in-range p (eqb-true _ _ (s1 .0));
-      key = eqb-true _ _ (s2 .0);
-      outer = ltb-true _ _ (s3 .0);
-      field = ltb-true _ _ (s4 .0);
-      digit = ltb-true _ _ (s5 .0);
-    }
+    let f = good p (lookupChecks p len i j k) refl e in
+    record { range = in-range p (f .0); key = f .1 .0; outer = f .1 .1 .0; field = f .1 .1 .1 .0; digit = f .1 .1 .1 .1 .0 }
 
 -- for callers: good arguments are not refused
 pub lookup-done : (p : Params) (len i j k : ℕ) → paramsNumber p ≡ 0 → len ≡ switchingWords p → i < size p → j < p .t → k < base p
     → lookupNumber p len i j k ≡ 0
 unfolding lookupNumber
-lookup-done p len i j k e l hi hj hk = simp (eq-eqb (paramsNumber p) 0 e, eq-eqb len _ l, lt-ltb i _ hi, lt-ltb j _ hj, lt-ltb k _ hk)
+lookup-done p len i j k e l hi hj hk = done p (lookupChecks p len i j k) (e, (l, (hi, (hj, (hk, tt)))))
+
+-- the code's chain, BASE being what `ring::power` gives: in range it is BASE, and out of range nothing hangs on it
+abbrev lookupBy : Params → ℕ → ℕ → ℕ → ℕ → ℕ → Sizes → List Check
+lookupBy p b len i j k s = is len (s .ksk) 2 ∷ below i (s .size) 3 ∷ below j (p .t) 3 ∷ below k b 3 ∷ []
+
+pub lookup-chained : (p : Params) (len i j k : ℕ) {b : ℕ} {s : Sizes} → b ≡ base p % Q → s ≡ sizesOf p → chain (s .number) (lookupBy p b len i j k s) ≡ lookupNumber p len i j k
+unfolding lookupNumber
+lookup-chained p len i j k {b} eb e = chained p (lookupBy p b len i j k) refl e ∙ go (ℕ-discrete (paramsNumber p) 0)
+  where
+    go : Dec (paramsNumber p ≡ 0) → refusalBy p (lookupBy p b len i j k (sizesIn p)) ≡ lookupNumber p len i j k
+    go (yes z) = ap (λ (x : ℕ). refusalBy p (lookupBy p x len i j k (sizesIn p))) (base-code p (in-range p z) eb)
+    go (no h) = simp (ne-eqb (paramsNumber p) 0 h)
 
 -- the length that `row_index` has from the record is the stated one wherever it is asked for
 pub lookup-sized : (p : Params) {s : Sizes} → s ≡ sizesOf p → (i j k : ℕ) → lookupNumber p (s .ksk) i j k ≡ lookupNumber p (switchingWords p) i j k
@@ -131,26 +104,14 @@ pub record BitGood (p : Params) (len i : ℕ) : Type 0 where
 
 pub bit-good : (p : Params) (len i : ℕ) → bitRowsNumber p len i ≡ 0 → BitGood p len i
 unfolding bitRowsNumber
-bit-good p len i e =
-    let s1 = passed _ _ _ (lit< tt) e in
-    let s2 = passed _ _ _ (lit< tt) (s1 .1) in
-    let s3 = passed _ _ _ (lit< tt) (s2 .1) in
-    record { range = eqb-true _ _ (s1 .0); key = eqb-true _ _ (s2 .0); index = ltb-true _ _ (s3 .0) }
+bit-good p len i e = let f = good p (bitRowsChecks p len i) refl e in record { range = f .0; key = f .1 .0; index = f .1 .1 .0 }
 
 -- for callers: good arguments are not refused
 pub bit-done : (p : Params) (len i : ℕ) → paramsNumber p ≡ 0 → len ≡ bootstrappingWords p → i < p .n → bitRowsNumber p len i ≡ 0
 unfolding bitRowsNumber
-bit-done p len i e l h = simp (eq-eqb (paramsNumber p) 0 e, eq-eqb len _ l, lt-ltb i _ h)
+bit-done p len i e l h = done p (bitRowsChecks p len i) (e, (l, (h, tt)))
 
 -- ---- generation
-
--- a key that is refused is not binary
-pub key-bad : (key : List ℕ) → (keyNumber key ≡ 0 → ⊥) → binary key ≡ false
-key-bad key = go (binary key)
-  where
-    go : (b : Bool) → (check b 4 0 ≡ 0 → ⊥) → b ≡ false
-    go true h = absurd (h refl)
-    go false h = refl
 
 pub record GenerateGood (p : Params) (key z : List ℕ) (masks noise out : ℕ) : Type 0 where
   pub lent : Lent p (length key) (length z) masks noise
@@ -161,25 +122,12 @@ pub record GenerateGood (p : Params) (key z : List ℕ) (masks noise out : ℕ) 
 pub generate-good : (p : Params) (key z : List ℕ) (masks noise out : ℕ) → generateNumber p key z masks noise out ≡ 0 → GenerateGood p key z masks noise out
 unfolding generateNumber
 generate-good p key z masks noise out e =
-    let s1 = passed _ _ _ (lit< tt) e in
-    let s2 = passed _ _ _ (lit< tt) (s1 .1) in
-    let s3 = passed _ _ _ (lit< tt) (s2 .1) in
-    let s4 = passed _ _ _ (lit< tt) (s3 .1) in
-    let s5 = passed _ _ _ (lit< tt) (s4 .1) in
-    let s6 = passed _ _ _ (lit< tt) (s5 .1) in
-    let s7 = passed _ _ _ (lit< tt) (s6 .1) in
-    let s8 = passed _ _ _ (lit< tt) (s7 .1) in
+    let f = good p (generateChecks p key z masks noise out) refl e in
     record {
-      lent = record {
-        range = in-range p (eqb-true _ _ (s1 .0));
-        key-length = eqb-true _ _ (s2 .0);
-        z-length = eqb-true _ _ (s3 .0);
-        masks-length = eqb-true _ _ (s4 .0);
-        noise-length = eqb-true _ _ (s5 .0);
-      };
-      rows = eqb-true _ _ (s6 .0);
-      key-binary = s7 .0;
-      z-binary = s8 .0;
+      lent = record { range = in-range p (f .0); key-length = f .1 .0; z-length = f .1 .1 .0; masks-length = f .1 .1 .1 .0; noise-length = f .1 .1 .1 .1 .0 };
+      rows = f .1 .1 .1 .1 .1 .0;
+      key-binary = f .1 .1 .1 .1 .1 .1 .0;
+      z-binary = f .1 .1 .1 .1 .1 .1 .1 .0;
     }
 
 -- for callers: good arguments are not refused
@@ -187,5 +135,5 @@ pub generate-done : (p : Params) (key z : List ℕ) (masks noise out : ℕ) → 
     → generateNumber p key z masks noise out ≡ 0
 unfolding generateNumber
 generate-done p key z masks noise out e g =
-    simp
-    (eq-eqb (paramsNumber p) 0 e, eq-eqb (length key) (p .n) (g .lent .key-length), eq-eqb (length z) (size p) (g .lent .z-length), eq-eqb masks _ (g .lent .masks-length), eq-eqb noise _ (g .lent .noise-length), eq-eqb out _ (g .rows), g .key-binary, g .z-binary)
+    done p (generateChecks p key z masks noise out)
+    (e, (g .lent .key-length, (g .lent .z-length, (g .lent .masks-length, (g .lent .noise-length, (g .rows, (g .key-binary, (g .z-binary, tt))))))))

@@ -1,27 +1,27 @@
 -- The rows that draw: row number r is row (i, j, k) and back, the rows that draw are numbered within the masks and the noise, and a row as written
 -- is as long as it should be. Division with remainder, and products of bounds.
 -- Assumes nothing.
-use mathlib.Core.Path.{_≡_, refl, sym, ap, _∙_}
+use mathlib.Core.Path.{_≡_, refl, ap, _∙_}
 use mathlib.Core.Bool.{Bool, true, false, cond}
 use mathlib.Core.List.{List, [], _∷_, _++_}
 use Prim.Native.Nat.{ℕ, _+_, _*_, _-_, _/_, _%_, _^_, _≤_, _<_}
-use native.Mathlib.Nat.{mul-le-mul-right, mul-le-mul, mod-lt, mod-eq-of-lt, div-lt-iff-lt-mul, div-add-mod, mul-add-div, mul-add-mod-self-left, div-eq-of-lt, add-zero, add-sub-cancel-left}
+use native.Mathlib.Nat.{mul-le-mul-right, mod-lt, mod-eq-of-lt, div-lt-iff-lt-mul, mul-add-div, mul-add-mod-self-left, div-eq-of-lt, add-zero}
 use native.Mathlib.Omega.{arith}
 use borrow.Author.Tests.{eq-eqb, ne-eqb, eqb-false}
 use lib.Dec.{eqb}
-use lib.ListN.{length, take, drop, length-append, length-drop}
-use lib.Seq.{length-take-le}
+use lib.ListN.{length, take, drop, length-append}
 use Rattle.ring.specs.Word.{Q, at}
 use Rattle.ring.specs.Phase.{inner}
 use Rattle.ring.specs.Sums.{tab}
 use Rattle.ring.proofs.Tab.{length-tab}
 use Rattle.ring.proofs.Words.{mul-mod-l, mul-mod-r}
+use Rattle.ring.proofs.Parts.{part-length, slice-part}
 use Rattle.params.specs.declared.Params.{Params}
 use Rattle.params.specs.Ranges.{InRange}
 use Rattle.params.specs.Sizes.{size, base, switchingRows, drawingRows}
 use Rattle.params.proofs.Ranges.{base-from, sizes-small}
 use Rattle.key.specs.Switching.{rowIndex, carried}
-use Rattle.key.specs.Generation.{rowOuter, rowField, rowDigit, drawn, rowMasks, rowNoise, drawnRow, generatedRow, Lent}
+use Rattle.key.specs.Generation.{rowOuter, rowField, rowDigit, drawn, rowMasks, rowNoise, drawnRow, generatedRow}
 
 -- ---- row numbers
 
@@ -79,9 +79,7 @@ module _ (p : Params) (i j k : ℕ) (hi : i < size p) (hj : j < p .t) (hk : k < 
 
   pub length-masks : (masks : List ℕ) → length masks ≡ drawingRows p * p .n → 1 ≤ k → length (rowMasks p masks i j k) ≡ p .n
   unfolding rowMasks
-  length-masks masks e from =
-      let a = masks-end from in
-      length-take-le (p .n) (drop (drawn p i j k * p .n) masks) (rw (length-drop (drawn p i j k * p .n) masks) (omega arith))
+  length-masks masks e from = part-length masks (drawn p i j k * p .n) (p .n) (rw e (masks-end from))
 
   -- a row has n + 1 words
   pub length-row : (key z masks noise : List ℕ) → length masks ≡ drawingRows p * p .n → length (generatedRow p key z masks noise i j k) ≡ p .n + 1
@@ -139,7 +137,7 @@ pub row-code : (p : Params) (key z masks noise : List ℕ) (i j k d w : ℕ) →
     → take (d * p .n + p .n - d * p .n) (drop (d * p .n) masks) ++ ((inner (length key) key (take (d * p .n + p .n - d * p .n) (drop (d * p .n) masks)) + w + at noise d) % Q ∷ [])
     ≡ drawnRow p key z masks noise i j k
 unfolding drawnRow rowMasks rowNoise
-row-code p key z masks noise i j k d w ed el ew = rw (add-sub-cancel-left (d * p .n) (p .n), el, ew, ed)
+row-code p key z masks noise i j k d w ed el ew = rw (slice-part masks (d * p .n) (p .n), el, ew, ed)
 
 -- ---- what a row carries, as the code reckons it
 

@@ -1,33 +1,24 @@
 -- A generated switching key, row by row: row (i, j, k) of the whole is the row that was made, zero for k = 0, and the error of a row that draws, in the
 -- sense of 01's Drift, is its noise word. The masks' sum under the key and what the row carries fall out of its phase.
 -- Assumes nothing.
-use mathlib.Core.Path.{_≡_, refl, sym, ap, ap₂, _∙_}
+use mathlib.Core.Path.{_≡_, sym, ap, _∙_}
 use mathlib.Core.List.{List, [], _∷_, _++_}
-use Prim.Native.Nat.{ℕ, _+_, _*_, _%_, _≤_, _<_}
+use Prim.Native.Nat.{ℕ, _+_, _%_, _≤_, _<_}
 use native.Mathlib.Nat.{add-assoc}
 use native.Mathlib.Omega.{arith}
-use lib.ListN.{length, List·getD-append}
-use lib.Seq.{getD-at}
-use Rattle.ring.specs.Word.{Q, at, neg}
-use Rattle.ring.specs.Sums.{sumTo, tab}
-use Rattle.ring.specs.Phase.{inner, samplePhase}
-use Rattle.ring.proofs.SumLaws.{sum-ext}
+use lib.ListN.{length}
+use Rattle.ring.specs.Word.{Q, neg}
+use Rattle.ring.specs.Sums.{tab}
+use Rattle.ring.specs.Phase.{inner, phaseOf}
+use Rattle.ring.proofs.Extract.{phase-row}
 use Rattle.params.specs.declared.Params.{Params}
 use Rattle.params.specs.Sizes.{size, base, switchingRows}
-use Rattle.tlwe.specs.Key.{phaseOf}
 use Rattle.key.specs.Switching.{rowIndex, rowPart, carried, switchingRowError}
-use Rattle.key.specs.Generation.{rowOuter, rowField, rowDigit, rowMasks, rowNoise, drawnRow, generatedRow, generated, Lent}
+use Rattle.key.specs.Generation.{rowOuter, rowField, rowDigit, rowMasks, rowNoise, drawnRow, generatedRow, generated}
+use Rattle.key.specs.Private.{Lent}
 use Rattle.key.proofs.Rows.{row-below}
 use Rattle.key.proofs.Draws.{outer-below, field-below, digit-below, outer-back, field-back, digit-back, length-masks, length-row, idle, live}
-use Rattle.key.proofs.Joins.{joined-part}
-use Rattle.ring.specs.Lists.{joined}
-
--- the phase of a row of n masks m and the last word b is that of m and b
-pub phase-of-row : (n : ℕ) (key m : List ℕ) (b : ℕ) → length m ≡ n → phaseOf n key (m ++ (b ∷ [])) ≡ samplePhase n key m b
-unfolding samplePhase inner
-phase-of-row n key m b e =
-    ap₂ (λ (x s : ℕ). (x + neg s) % Q) (getD-at m b [] 0 n e)
-    (sum-ext n (λ i. at (m ++ (b ∷ [])) i * at key i) (λ i. at m i * at key i) (λ i l. ap (λ (x : ℕ). x * at key i) (List·getD-append m (b ∷ []) 0 i (rw e l))))
+use Rattle.ring.proofs.Joins.{joined-part}
 
 -- a term taken off again
 less : (x y : ℕ) → ((x + y) % Q + neg x) % Q ≡ y % Q
@@ -35,8 +26,7 @@ unfolding neg Q
 less x y = omega arith
 
 -- what is added to the masks' sum is the phase, and less w it is what is added to w
-pub added : (n : ℕ) (key m : List ℕ) (w e : ℕ) → (samplePhase n key m ((inner n key m + w + e) % Q) + neg w) % Q ≡ e % Q
-unfolding samplePhase
+pub added : (n : ℕ) (key m : List ℕ) (w e : ℕ) → (((inner n key m + w + e) % Q + neg (inner n key m)) % Q + neg w) % Q ≡ e % Q
 added n key m w e =
     ap (λ (x : ℕ). ((x % Q + neg (inner n key m)) % Q + neg w) % Q) (add-assoc (inner n key m) w e)
     ∙ ap (λ (x : ℕ). (x + neg w) % Q) (less (inner n key m) (w + e)) ∙ less w e
@@ -68,5 +58,5 @@ module _ (p : Params) (key z masks noise : List ℕ) (lent : Lent p (length key)
         let b = (inner (p .n) key m + carried p z i j k + rowNoise p noise i j k) % Q in
         let row : rowPart p (generated p key z masks noise) i j k ≡ m ++ (b ∷ []) = row-is ∙ sym (live p key z masks noise i j k (omega arith)) in
         ap (λ (x : List ℕ). (phaseOf (p .n) key x + neg (carried p z i j k)) % Q) row
-        ∙ ap (λ (x : ℕ). (x + neg (carried p z i j k)) % Q) (phase-of-row (p .n) key m b (length-masks p i j k hi hj hk masks (lent .masks-length) from))
+        ∙ ap (λ (x : ℕ). (x + neg (carried p z i j k)) % Q) (phase-row (p .n) key m b (length-masks p i j k hi hj hk masks (lent .masks-length) from))
         ∙ added (p .n) key m (carried p z i j k) (rowNoise p noise i j k)

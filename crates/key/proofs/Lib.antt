@@ -1,7 +1,6 @@
 pub mod Checks
 pub mod Rows
 pub mod Draws
-pub mod Joins
 pub mod Errors
 pub mod Examples
 pub mod Determined

@@ -1,15 +1,15 @@
 -- The layout of both keys: each row lies within its key, and a switching row's place is worked out modulo 2^32 without loss.
 -- Products of bounds, and products modulo Q by their factors.
 -- Assumes nothing.
-use mathlib.Core.Path.{_≡_, refl, sym, ap, _∙_}
-use Prim.Native.Nat.{ℕ, _+_, _*_, _-_, _%_, _^_, _≤_, _<_}
+use mathlib.Core.Path.{_≡_, ap, _∙_}
+use Prim.Native.Nat.{ℕ, _+_, _*_, _-_, _%_, _≤_, _<_}
 use mathlib.Core.List.{List}
-use native.Mathlib.Nat.{mul-le-mul-right, mod-eq-of-lt, add-sub-cancel-left}
-use lib.ListN.{length, take, drop, length-drop}
-use lib.Seq.{length-take-le}
+use native.Mathlib.Nat.{mul-le-mul-right, mod-eq-of-lt}
+use lib.ListN.{length}
 use native.Mathlib.Omega.{arith}
 use Rattle.ring.specs.Word.{Q}
 use Rattle.ring.proofs.Words.{mul-mod-l}
+use Rattle.ring.proofs.Parts.{part-length}
 use Rattle.params.specs.declared.Params.{Params}
 use Rattle.params.specs.Ranges.{InRange}
 use Rattle.params.specs.Sizes.{size, base, switchingRows, switchingWords, bitWords, bootstrappingWords}
@@ -27,10 +27,6 @@ index-code p i j k {b} {f} {o} {n} {s} {r} eb ef eo en es er =
     let n' : n ≡ base p * j % Q = en ∙ ap (λ (x : ℕ). x * j % Q) eb ∙ mul-mod-l (base p) j in
     omega arith
 
--- a part of w words has w words
-pub part-length : (l : List ℕ) (from w : ℕ) → from + w ≤ length l → length (take (from + w - from) (drop from l)) ≡ w
-part-length l from w h = length-take-le (from + w - from) (drop from l) (rw (length-drop from l) (omega arith)) ∙ add-sub-cancel-left from w
-
 -- row r of so many ends within them
 pub row-ends : (r rows w : ℕ) → r < rows → r * w + w ≤ rows * w
 row-ends r rows w h = let a = mul-le-mul-right w h in omega arith
@@ -42,9 +38,7 @@ base-code p r e = let h = base-to p r in e ∙ mod-eq-of-lt (omega arith)
 -- a bit's rows have their words
 pub bit-length : (p : Params) (key : List ℕ) (i : ℕ) → length key ≡ bootstrappingWords p → i < p .n → length (bitRows p key i) ≡ bitWords p
 unfolding bitRows
-bit-length p key i e h =
-    let from : ℕ = i * bitWords p in
-    length-take-le (bitWords p) (drop from key) (rw (length-drop from key, e) (let r = row-ends i (p .n) (bitWords p) h in omega arith))
+bit-length p key i e h = part-length key (i * bitWords p) (bitWords p) (rw e (row-ends i (p .n) (bitWords p) h))
 
 module _ (p : Params) (i j k : ℕ) (hi : i < size p) (hj : j < p .t) (hk : k < base p) where
   pub row-below : rowIndex p i j k < switchingRows p
@@ -64,6 +58,4 @@ module _ (p : Params) (i j k : ℕ) (hi : i < size p) (hj : j < p .t) (hk : k < 
   -- a row has its n + 1 words
   pub row-length : (key : List ℕ) → length key ≡ switchingWords p → length (rowPart p key i j k) ≡ p .n + 1
   unfolding rowPart
-  row-length key e =
-      let from : ℕ = rowIndex p i j k * (p .n + 1) in
-      length-take-le (p .n + 1) (drop from key) (rw (length-drop from key, e) (let h = row-end in omega arith))
+  row-length key e = part-length key (rowIndex p i j k * (p .n + 1)) (p .n + 1) (rw e row-end)

@@ -1,20 +1,18 @@
 -- The switching key as it is generated from lent masks and noise (01, key; `gen_key_switching_key` of src/key.rs).
-use mathlib.Core.Path.{_≡_}
 use mathlib.Core.Bool.{cond}
 use mathlib.Core.List.{List, [], _∷_, _++_}
-use Prim.Native.Nat.{ℕ, zero, suc, _+_, _*_, _-_, _/_, _%_}
+use Prim.Native.Nat.{ℕ, _+_, _*_, _-_, _/_, _%_}
 use lib.Dec.{eqb}
-use lib.ListN.{length, take, drop}
+use lib.ListN.{length}
 use Rattle.ring.specs.Word.{Q, at}
 use Rattle.ring.specs.Sums.{tab}
 use Rattle.ring.specs.Phase.{inner}
 use Rattle.params.specs.declared.Params.{Params}
-use Rattle.params.specs.Refusal.{check}
-use Rattle.params.specs.Ranges.{paramsNumber, InRange}
 use Rattle.params.specs.Sizes.{size, base, switchingRows, drawingRows, switchingWords}
+use Rattle.refusals.specs.Table.{Check, is, holds, refusalBy}
 use Rattle.tlwe.specs.Key.{binary}
 use Rattle.key.specs.Switching.{carried}
-use Rattle.ring.specs.Lists.{joined}
+use Rattle.ring.specs.Lists.{part, joined}
 
 -- Row number r is row (i, j, k): its i. These three undo `rowIndex`.
 unfoldable pub rowOuter : Params → ℕ → ℕ
@@ -34,7 +32,7 @@ drawn p i j k = (i * p .t + j) * (base p - 1) + (k - 1)
 
 -- The masks of row (i, j, k): the n that its number among the drawing rows gives it.
 unfoldable pub rowMasks : Params → List ℕ → ℕ → ℕ → ℕ → List ℕ
-rowMasks p masks i j k = take (p .n) (drop (drawn p i j k * p .n) masks)
+rowMasks p masks i j k = part (p .n) (drawn p i j k * p .n) masks
 
 -- Its noise word.
 unfoldable pub rowNoise : Params → List ℕ → ℕ → ℕ → ℕ → ℕ
@@ -53,24 +51,18 @@ generatedRow p key z masks noise i j k = cond (eqb k 0) (tab (p .n + 1) (λ x. 0
 unfoldable pub generated : Params → List ℕ → List ℕ → List ℕ → List ℕ → List ℕ
 generated p key z masks noise = joined (switchingRows p) (λ r. generatedRow p key z masks noise (rowOuter p r) (rowField p r) (rowDigit p r))
 
--- What generation is lent where nothing is refused: the lengths of the two keys, the masks and the noise.
-pub record Lent (p : Params) (key z masks noise : ℕ) : Type 0 where
-  pub range : InRange p
-  pub key-length : key ≡ p .n
-  pub z-length : z ≡ size p
-  pub masks-length : masks ≡ drawingRows p * p .n
-  pub noise-length : noise ≡ drawingRows p
+-- Generation under the level-0 key and the level-1 key z, with so many masks, noise words and words of the switching key: each slice, then each key.
+abbrev pub generateChecks : Params → List ℕ → List ℕ → ℕ → ℕ → ℕ → List Check
+generateChecks p key z masks noise out =
+    is (length key) (p .n) 2
+    ∷ is (length z) (size p) 2
+    ∷ is masks (drawingRows p * p .n) 2
+    ∷ is noise (drawingRows p) 2
+    ∷ is out (switchingWords p) 2
+    ∷ holds (binary key) 4
+    ∷ holds (binary z) 4
+    ∷ []
 
--- The refusal of generation under the level-0 key and the level-1 key z, with so many masks, noise words and words of the switching key: 1, then 2
--- for each slice, then 4 for each key.
+-- Its refusal: 1, 2, 4 or 0.
 unfoldable pub generateNumber : Params → List ℕ → List ℕ → ℕ → ℕ → ℕ → ℕ
-generateNumber p key z masks noise out =
-    check (eqb (paramsNumber p) 0) 1
-    (check (eqb (length key) (p .n)) 2
-    (check (eqb (length z) (size p)) 2
-    (check (eqb masks (drawingRows p * p .n)) 2
-    (check (eqb noise (drawingRows p)) 2
-    (check (eqb out (switchingWords p)) 2
-    (check (binary key) 4
-    (check (binary z) 4
-    0)))))))
+generateNumber p key z masks noise out = refusalBy p (generateChecks p key z masks noise out)

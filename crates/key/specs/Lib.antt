@@ -3,3 +3,4 @@ pub mod Testvec
 pub mod Switching
 pub mod Bits
 pub mod Generation
+pub mod Private

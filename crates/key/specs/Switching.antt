@@ -1,14 +1,13 @@
 -- The layout of the switching key, and what its rows carry (01, key; `gen_key_switching_key` of src/key.rs).
-use mathlib.Core.List.{List}
+use mathlib.Core.List.{List, [], _∷_}
 use Prim.Native.Nat.{ℕ, _+_, _*_, _-_, _%_, _^_}
-use lib.Dec.{eqb, ltb}
-use lib.ListN.{take, drop}
 use Rattle.ring.specs.Word.{Q, at, neg}
+use Rattle.ring.specs.Lists.{part}
+use Rattle.ring.specs.Phase.{phaseOf}
 use Rattle.params.specs.declared.Params.{Params}
-use Rattle.params.specs.Refusal.{check, answer, ifDone}
-use Rattle.params.specs.Ranges.{paramsNumber}
+use Rattle.params.specs.Refusal.{answer, ifDone}
 use Rattle.params.specs.Sizes.{size, base, switchingWords}
-use Rattle.tlwe.specs.Key.{phaseOf}
+use Rattle.refusals.specs.Table.{Check, is, below, refusalBy}
 use Rattle.key.specs.declared.RowPlace.{RowPlace}
 
 -- The place of row (i, j, k) among the rows: for i below N, j below T, k below BASE.
@@ -17,7 +16,7 @@ rowIndex p i j k = base p * p .t * i + base p * j + k
 
 -- Row (i, j, k) of a key: its n + 1 words.
 unfoldable pub rowPart : Params → List ℕ → ℕ → ℕ → ℕ → List ℕ
-rowPart p key i j k = take (p .n + 1) (drop (rowIndex p i j k * (p .n + 1)) key)
+rowPart p key i j k = part (p .n + 1) (rowIndex p i j k * (p .n + 1)) key
 
 -- What row (i, j, k) should carry, z being the level-1 key: k·z_i·2^(32-(j+1)·BASEBIT) (01, key and Drift).
 unfoldable pub carried : Params → List ℕ → ℕ → ℕ → ℕ → ℕ
@@ -27,15 +26,18 @@ carried p z i j k = k * at z i * 2 ^ (32 - (j + 1) * p .basebit) % Q
 unfoldable pub switchingRowError : Params → List ℕ → List ℕ → List ℕ → ℕ → ℕ → ℕ → ℕ
 switchingRowError p key z rows i j k = (phaseOf (p .n) key (rowPart p rows i j k) + neg (carried p z i j k)) % Q
 
--- The refusal of a lookup of row (i, j, k) in a key of so many words: 1, 2, then 3 for each index in turn.
+-- A lookup of row (i, j, k) in a key of so many words: its length, then each index in turn.
+abbrev pub lookupChecks : Params → ℕ → ℕ → ℕ → ℕ → List Check
+lookupChecks p len i j k =
+    is len (switchingWords p) 2
+    ∷ below i (size p) 3
+    ∷ below j (p .t) 3
+    ∷ below k (base p) 3
+    ∷ []
+
+-- Its refusal: 1, 2, 3 or 0.
 unfoldable pub lookupNumber : Params → ℕ → ℕ → ℕ → ℕ → ℕ
-lookupNumber p len i j k =
-    check (eqb (paramsNumber p) 0) 1
-    (check (eqb len (switchingWords p)) 2
-    (check (ltb i (size p)) 3
-    (check (ltb j (p .t)) 3
-    (check (ltb k (base p)) 3
-    0))))
+lookupNumber p len i j k = refusalBy p (lookupChecks p len i j k)
 
 -- What `row_index` hands back: the refusal of a lookup in a key of its stated length, and the row's place, 0 beside a refusal.
 unfoldable pub placeOut : Params → ℕ → ℕ → ℕ → RowPlace

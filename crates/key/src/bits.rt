@@ -12,16 +12,8 @@ fn bit_number(p: Params, len: usize, i: usize) -> u32
     ensures { λ r. ⌜ r ≡ bitRowsNumber p len i ⌝ }
 {
     let s = params::sizes_of(p);
-    if s.number != 0 {
-        return 1;
-    }
-    if len != s.bsk {
-        return 2;
-    }
-    if s.n <= i {
-        return 3;
-    }
-    0
+    let number = refusals::is(s.number, len, s.bsk, 2);
+    refusals::below(number, i, s.n, 3)
 }
 
 // What a lookup of bit i's rows in a bootstrapping key of so many words is answered. Refusals: 1, 2, 3.

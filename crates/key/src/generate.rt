@@ -6,8 +6,8 @@ ghost use lib.ListN.{length};
 ghost use Rattle.ring.specs.Word.{Q};
 ghost use Rattle.ring.specs.Phase.{inner};
 ghost use Rattle.params.specs.Sizes.{size, base, switchingRows, switchingWords};
-ghost use Rattle.key.specs.Generation.{drawnRow, generatedRow, generated, rowOuter, rowField, rowDigit, Lent};
-use super::fill;
+ghost use Rattle.key.specs.Generation.{drawnRow, generatedRow, generated, rowOuter, rowField, rowDigit};
+ghost use Rattle.key.specs.Private.{Lent};
 use params::Params;
 
 // The masks' sum under the key, modulo 2^32.
@@ -31,11 +31,7 @@ fn put(masks: &[u32], b: u32, out: &mut [u32])
     ensures { λ _. ⌜ now (out .exit) ≡ now (masks .entry) ++ (b ∷ []) ⌝ }
 {
     let n = masks.len();
-    let mut i = 0;
-    while i < n {
-        out[i] = masks[i];
-        i += 1;
-    }
+    words::copy(masks, out);
     out[n] = b;
 }
 
@@ -98,7 +94,7 @@ fn row_into(
     let t = p.t as usize;
     let k = r % base;
     if k == 0 {
-        fill(out, 0);
+        words::fill(0, out);
         return;
     }
     let field = r / base;

@@ -4,11 +4,10 @@ ghost use mathlib.Core.List.{[]};
 ghost use Prim.Native.Nat.{_+_, _-_, _*_, _%_, _^_, _≤_, _<_};
 ghost use lib.ListN.{length};
 ghost use Rattle.ring.specs.Word.{Q};
-ghost use Rattle.ring.specs.Sums.{tab};
 ghost use Rattle.params.specs.Refusal.{answer, ifDone};
 ghost use Rattle.params.specs.Ranges.{InRange};
 ghost use Rattle.key.specs.Offset.{offset, offsetOut};
-ghost use Rattle.key.specs.Testvec.{testNumber, testA, testB};
+ghost use Rattle.key.specs.Testvec.{testNumber, testPair};
 ghost use Rattle.key.specs.Switching.{rowIndex, rowPart, lookupNumber, placeOut};
 ghost use Rattle.key.specs.Generation.{generateNumber, generated};
 
@@ -66,47 +65,27 @@ pub fn decomposition_offset(p: Params) -> Offset
     }
 }
 
-// Every word of out set to v.
-fn fill(out: &mut [u32], v: u32)
-    ensures { λ _. ⌜ now (out .exit) ≡ tab (length (now (out .entry))) (λ i. v) ⌝ }
-{
-    let m = out.len();
-    let mut i = 0;
-    while i < m {
-        out[i] = v;
-        i += 1;
-    }
-}
-
 // The refusal of `gen_testvec`: the parameters, then both lengths.
 fn testvec_number(p: Params, a: usize, b: usize) -> u32
     ensures { λ r. ⌜ r ≡ testNumber p a b ⌝ }
 {
     let s = params::sizes_of(p);
-    if s.number != 0 {
-        return 1;
-    }
-    if a != s.size {
-        return 2;
-    }
-    if b != s.size {
-        return 2;
-    }
-    0
+    let number = refusals::is(s.number, a, s.size, 2);
+    refusals::is(number, b, s.size, 2)
 }
 
 // `gen_testvec`: a zero, b an eighth of a turn in every word. Refusals: 1, 2.
 pub fn gen_testvec(p: Params, a: &mut [u32], b: &mut [u32]) -> Answer
     ensures said { λ r. ⌜ r ≡ answer (testNumber p (length (now (a .entry))) (length (now (b .entry)))) ⌝ }
-    ensures first { λ r. ⌜ now (a .exit) ≡ ifDone (testNumber p (length (now (a .entry))) (length (now (b .entry)))) (testA p) (now (a .entry)) ⌝ }
-    ensures second { λ r. ⌜ now (b .exit) ≡ ifDone (testNumber p (length (now (a .entry))) (length (now (b .entry)))) (testB p) (now (b .entry)) ⌝ }
+    ensures first { λ r. ⌜ now (a .exit) ≡ ifDone (testNumber p (length (now (a .entry))) (length (now (b .entry)))) (testPair p .a) (now (a .entry)) ⌝ }
+    ensures second { λ r. ⌜ now (b .exit) ≡ ifDone (testNumber p (length (now (a .entry))) (length (now (b .entry)))) (testPair p .b) (now (b .entry)) ⌝ }
 {
     let number = testvec_number(p, a.len(), b.len());
     if number != 0 {
         return Answer { number, place: 0 };
     }
-    fill(a, 0);
-    fill(b, 0x2000_0000);
+    words::fill(0, a);
+    words::fill(0x2000_0000, b);
     Answer {
         number: 0,
         place: 0,
@@ -128,22 +107,11 @@ fn lookup_number(p: Params, len: usize, i: usize, j: usize, k: usize) -> u32
     ensures { λ r. ⌜ r ≡ lookupNumber p len i j k ⌝ }
 {
     let s = params::sizes_of(p);
-    if s.number != 0 {
-        return 1;
-    }
-    if len != s.ksk {
-        return 2;
-    }
-    if s.size <= i {
-        return 3;
-    }
-    if (p.t as usize) <= j {
-        return 3;
-    }
-    if (ring::power(p.basebit) as usize) <= k {
-        return 3;
-    }
-    0
+    let base = ring::power(p.basebit) as usize;
+    let number = refusals::is(s.number, len, s.ksk, 2);
+    let number = refusals::below(number, i, s.size, 3);
+    let number = refusals::below(number, j, p.t as usize, 3);
+    refusals::below(number, k, base, 3)
 }
 
 // The place of row (i, j, k) among the rows of the switching key: its first word stands at (n + 1) times this. Refusals: 1, 3.
@@ -200,31 +168,13 @@ fn generate_number(
     ensures { λ r. ⌜ r ≡ generateNumber p (now («key_lv0» .entry)) (now («key_lv1» .entry)) masks noise out ⌝ }
 {
     let s = params::sizes_of(p);
-    if s.number != 0 {
-        return 1;
-    }
-    if key_lv0.len() != s.n {
-        return 2;
-    }
-    if key_lv1.len() != s.size {
-        return 2;
-    }
-    if masks != s.kskmasks {
-        return 2;
-    }
-    if noise != s.ksknoise {
-        return 2;
-    }
-    if out != s.ksk {
-        return 2;
-    }
-    if tlwe::keys::key_number(key_lv0) != 0 {
-        return 4;
-    }
-    if tlwe::keys::key_number(key_lv1) != 0 {
-        return 4;
-    }
-    0
+    let number = refusals::is(s.number, key_lv0.len(), s.n, 2);
+    let number = refusals::is(number, key_lv1.len(), s.size, 2);
+    let number = refusals::is(number, masks, s.kskmasks, 2);
+    let number = refusals::is(number, noise, s.ksknoise, 2);
+    let number = refusals::is(number, out, s.ksk, 2);
+    let number = refusals::also(number, tlwe::keys::is_binary(key_lv0), 4);
+    refusals::also(number, tlwe::keys::is_binary(key_lv1), 4)
 }
 
 // `gen_key_switching_key` with lent masks and noise, drawn in row order by the rows with k from 1. Refusals: 1, 2, 4.

@@ -1,22 +1,21 @@
 -- Parameters that are not refused lie in their ranges, and the other way round, and then every length is small: the table is taken apart check by check and put
 -- together again, and the bounds are products of bounds.
 -- Assumes nothing.
-use mathlib.Core.Path.{_≡_, refl, sym, ap, _∙_}
+use mathlib.Core.Path.{_≡_, _∙_}
 use Prim.Native.Nat.{ℕ, _+_, _-_, _*_, _^_, _≤_, _<_}
-use native.Mathlib.Nat.{mul-le-mul, le-mul-of-pos-right, mul-comm}
+use native.Mathlib.Nat.{mul-le-mul, le-mul-of-pos-right}
 use native.Mathlib.Decide.{ℕ-discrete}
 use native.Mathlib.Omega.{arith}
 use borrow.Author.Tests.{leb-true, le-leb, eq-eqb, ne-eqb}
 use lib.Dec.{lit<}
 use lib.Pow.{pow-mono, pow-pos}
 use Rattle.params.specs.declared.Params.{Params}
-use Rattle.params.specs.Refusal.{ifDone}
-use Rattle.params.specs.Ranges.{paramsNumber, switchingNumber, InRange}
+use Rattle.params.specs.Ranges.{paramsNumber, InRange}
 use Rattle.params.specs.Sizes.{size, base, sizesOf, sizesIn}
 use Rattle.params.proofs.Answers.{passed}
 
 pub in-range : (p : Params) → paramsNumber p ≡ 0 → InRange p
-unfolding paramsNumber switchingNumber
+unfolding paramsNumber
 in-range p e =
     let one : 0 < 1 = lit< tt in
     let s1 = passed _ _ _ one e in
@@ -48,7 +47,7 @@ in-range p e =
 
 -- and the other way round: numbers in their ranges are not refused
 pub not-refused : (p : Params) → InRange p → paramsNumber p ≡ 0
-unfolding paramsNumber switchingNumber
+unfolding paramsNumber
 not-refused p r =
     simp (
       le-leb _ _ (r .n-from),

@@ -2,7 +2,7 @@
 -- Assumes nothing.
 use mathlib.Core.Path.{_≡_, refl}
 use Prim.Native.Nat.{ℕ}
-use Rattle.params.specs.Ranges.{paramsNumber, switchingNumber}
+use Rattle.params.specs.Ranges.{paramsNumber}
 use Rattle.params.specs.Published.{security80, security110, security128, uint1, uint2, uint3, uint4, uint5, uint6, uint7, uint8}
 
 pub accepted : (paramsNumber security80 ≡ 0)
@@ -14,9 +14,9 @@ pub accepted : (paramsNumber security80 ≡ 0)
     × (paramsNumber uint4 ≡ 0)
     × (paramsNumber uint5 ≡ 0)
     × (paramsNumber uint6 ≡ 0)
-unfolding paramsNumber switchingNumber
+unfolding paramsNumber
 accepted = (refl, refl, refl, refl, refl, refl, refl, refl, refl)
 
 pub refused : (paramsNumber uint7 ≡ 1) × (paramsNumber uint8 ≡ 1)
-unfolding paramsNumber switchingNumber
+unfolding paramsNumber
 refused = (refl, refl)

@@ -1,6 +1,5 @@
 -- The refusal table of document 01 ('Refusal numbers'): how a routine's answer is put together, and what a lent slice holds after it.
 use mathlib.Core.Bool.{Bool, true, false, cond}
-use mathlib.Core.List.{List}
 use Prim.Native.Nat.{ℕ}
 use lib.Dec.{eqb}
 use Rattle.params.specs.declared.Answer.{Answer}

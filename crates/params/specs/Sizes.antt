@@ -25,9 +25,9 @@ drawingRows p = size p * p .t * (base p - 1)
 abbrev pub bitWords : Params → ℕ
 bitWords p = (p .l + p .l) * (size p + size p)
 
--- The words of the switching key: its rows of n + 1 words.
+-- The words of the switching key: n + 1 for each of its N·T·BASE rows.
 abbrev pub switchingWords : Params → ℕ
-switchingWords p = switchingRows p * (p .n + 1)
+switchingWords p = size p * p .t * base p * (p .n + 1)
 
 -- The words of the bootstrapping key: one part for each bit of the level-0 key.
 abbrev pub bootstrappingWords : Params → ℕ

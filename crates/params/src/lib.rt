@@ -1,8 +1,9 @@
 // The parameters at run time (src/params.rs has them as constants), the answer of every routine, and the length of every lent slice.
 ghost use mathlib.Core.Path.{_≡_};
-ghost use Prim.Native.Nat.{_+_, _-_, _*_, _^_, _≤_, _<_};
+ghost use Prim.Native.Nat.{_+_, _-_, _*_, _≤_, _<_};
 ghost use Rattle.params.specs.Refusal.{answer};
-ghost use Rattle.params.specs.Ranges.{paramsNumber, switchingNumber, InRange};
+ghost use Rattle.params.specs.Ranges.{paramsNumber, InRange};
+ghost use Rattle.params.specs.Private.{switchingNumber};
 ghost use Rattle.params.specs.Sizes.{sizesOf, sizesIn};
 
 pub mod published;
@@ -104,22 +105,14 @@ pub fn check(p: Params) -> Answer
     }
 }
 
-// 2^nbit.
-fn two_to(nbit: u32) -> usize
-    requires { ⌜ nbit ≤ 10 ⌝ }
-    ensures { λ r. ⌜ r ≡ 2 ^ nbit ⌝ }
-{
-    1usize << nbit
-}
-
 // The lengths, the parameters being in range.
 fn sizes_in(p: Params) -> Sizes
     requires { ⌜ InRange p ⌝ }
     ensures { λ r. ⌜ r ≡ sizesIn p ⌝ }
 {
     let n = p.n as usize;
-    let size = two_to(p.nbit);
-    let base = two_to(p.basebit);
+    let size = ring::power(p.nbit) as usize;
+    let base = ring::power(p.basebit) as usize;
     let fields = size * (p.t as usize);
     let rows = (p.l as usize) + (p.l as usize);
     let bit = rows * (size + size);

@@ -1,63 +1,33 @@
 -- The refusals taken apart and put together, and the doubled row: its window from place N - i on is X^i · b, so that the rows' sum is the product.
 -- Assumes nothing.
-use mathlib.Core.Path.{_≡_, sym, ap, ap₂, _∙_}
+use mathlib.Core.Path.{_≡_, refl, sym, ap, ap₂, _∙_}
 use mathlib.Core.Bool.{Bool, cond}
 use mathlib.Core.List.{List}
 use Prim.Native.Nat.{ℕ, suc, _+_, _-_, _*_, _%_, _≤_, _<_}
-use native.Mathlib.Nat.{mod-mod, add-mod-mod, add-sub-cancel-left}
+use native.Mathlib.Nat.{mod-mod, add-mod-mod}
 use native.Mathlib.Numerals.{add-one}
 use native.Mathlib.Omega.{arith}
-use borrow.Author.Tests.{le-leb, lt-ltb, le-ltb, eq-eqb, eqb-true}
-use lib.Dec.{lit<, leb, leb→le, nleb→lt}
-use lib.ListN.{length, take, drop, length-drop}
-use lib.Seq.{length-take-le, getD-take, getD-drop}
+use borrow.Author.Tests.{lt-ltb, le-ltb}
+use lib.Dec.{leb, leb→le, nleb→lt}
+use lib.ListN.{length, take, drop}
 use Rattle.params.specs.declared.Params.{Params}
-use Rattle.params.specs.declared.Sizes.{Sizes}
-use Rattle.params.specs.Ranges.{paramsNumber, switchingNumber, InRange}
-use Rattle.params.specs.Sizes.{size, sizesOf}
-use Rattle.params.proofs.Answers.{passed}
-use Rattle.params.proofs.Ranges.{in-range, sizes-good, sizes-number}
+use Rattle.params.specs.Ranges.{InRange}
+use Rattle.params.specs.Sizes.{size}
+use Rattle.params.proofs.Ranges.{in-range, not-refused}
+use Rattle.refusals.proofs.Table.{good, done}
 use Rattle.ring.specs.Word.{Q, at, neg}
 use Rattle.ring.specs.Sums.{sumTo, tab}
 use Rattle.ring.specs.Poly.{before, plus, times}
-use Rattle.ring.specs.Loop.{accTo}
 use Rattle.ring.proofs.Tab.{at-tab, tab-ext}
+use Rattle.ring.proofs.Parts.{slice-at}
 use Rattle.ring.proofs.SumLaws.{sum-back, sum-mod}
 use Rattle.ring.proofs.Words.{mul-mod-r}
 use Rattle.ring.proofs.Value.{by-test}
-use Rattle.product.specs.Product.{productNumber, doubledAt, doubled}
+use Rattle.product.specs.Product.{productChecks, productNumber}
+use Rattle.product.specs.Private.{doubledAt, doubled}
+use Rattle.ring.specs.Private.{accTo}
 
 -- ---- the refusals
-
-module _ (p : Params) {s : Sizes} (e : s ≡ sizesOf p) where
-  -- what the record of lengths says of the parameters
-  pub range-refused : (s .number ≡ 0 → ⊥) → paramsNumber p ≡ 0 → ⊥
-  range-refused h z = h (ap (λ (s : Sizes). s .number) (e ∙ sizes-good p z))
-
-  pub range-passed : s .number ≡ 0 → paramsNumber p ≡ 0
-  range-passed h = sizes-number p (sym (ap (λ (s : Sizes). s .number) e) ∙ h)
-
-  pub size-passed : s .number ≡ 0 → s .size ≡ size p
-  size-passed h = ap (λ (s : Sizes). s .size) (e ∙ sizes-good p (range-passed h))
-
--- parameters in range are not refused
-pub range-number : (p : Params) → InRange p → paramsNumber p ≡ 0
-unfolding paramsNumber switchingNumber
-range-number p r =
-    simp (
-      le-leb 1 (p .n) (r .n-from),
-      le-leb (p .n) 1100 (r .n-to),
-      le-leb 1 (p .nbit) (r .nbit-from),
-      le-leb (p .nbit) 10 (r .nbit-to),
-      le-leb 1 (p .bgbit) (r .bgbit-from),
-      le-leb (p .bgbit) 24 (r .bgbit-to),
-      le-leb 1 (p .l) (r .l-from),
-      le-leb (p .l * p .bgbit) 32 (r .digits-to),
-      le-leb 1 (p .basebit) (r .basebit-from),
-      le-leb (p .basebit) 6 (r .basebit-to),
-      le-leb 1 (p .t) (r .t-from),
-      le-leb (p .basebit * p .t) 30 (r .fields-to),
-    )
 
 -- what holds of a product that is not refused
 pub record ProductGood (p : Params) (la lb lo : ℕ) : Type 0 where
@@ -70,35 +40,19 @@ module _ (p : Params) (la lb lo : ℕ) where
   pub product-good : productNumber p la lb lo ≡ 0 → ProductGood p la lb lo
   unfolding productNumber
   product-good e =
-      let s1 = passed _ _ _ (lit< tt) e in
-      let s2 = passed _ _ _ (lit< tt) (s1 .1) in
-      let s3 = passed _ _ _ (lit< tt) (s2 .1) in
-      let s4 = passed _ _ _ (lit< tt) (s3 .1) in
-      record {
-        range = in-range p (eqb-true _ _ (s1 .0));
-        left = eqb-true _ _ (s2 .0);
-        right = eqb-true _ _ (s3 .0);
-        into = eqb-true _ _ (s4 .0);
-      }
+      let f = good p (productChecks p la lb lo) refl e in
+      record { range = in-range p (f .0); left = f .1 .0; right = f .1 .1 .0; into = f .1 .1 .1 .0 }
 
   pub product-passes : InRange p → la ≡ size p → lb ≡ size p → lo ≡ size p → productNumber p la lb lo ≡ 0
   unfolding productNumber
-  product-passes r a b o =
-      simp (eq-eqb (paramsNumber p) 0 (range-number p r), eq-eqb la (size p) a, eq-eqb lb (size p) b, eq-eqb lo (size p) o)
+  product-passes r a b o = done p (productChecks p la lb lo) (not-refused p r, (a, (b, (o, tt))))
 
--- ---- n words of a list, from place e on
-
-module _ (l : List ℕ) (e n : ℕ) where
-  pub part-length : e + n ≤ length l → length (take (e + n - e) (drop e l)) ≡ n
-  part-length h = length-take-le (e + n - e) (drop e l) (rw (length-drop e l) (omega arith)) ∙ add-sub-cancel-left e n
-
-  pub part-at : (k : ℕ) → k < n → at (take (e + n - e) (drop e l)) k ≡ at l (e + k)
-  part-at k h = getD-take (e + n - e) (drop e l) k 0 (omega arith) ∙ getD-drop e l k 0
+-- ---- the rows
 
 -- turn j's terms, as the code says them and as the sum does
 pub row-term : (a twice : List ℕ) (n j x : ℕ) → x < n
     → at a (n - (j + 1)) * at (take (j + 1 + n - (j + 1)) (drop (j + 1) twice)) x ≡ at a (n - suc j) * at twice (suc j + x)
-row-term a twice n j x l = ap (λ (y : ℕ). at a (n - (j + 1)) * y) (part-at twice (j + 1) n x l) ∙ ap (λ (e : ℕ). at a (n - e) * at twice (e + x)) (add-one j)
+row-term a twice n j x l = ap (λ (y : ℕ). at a (n - (j + 1)) * y) (slice-at twice (j + 1) n x l) ∙ ap (λ (e : ℕ). at a (n - e) * at twice (e + x)) (add-one j)
 
 -- ---- the doubled row
 

@@ -12,7 +12,7 @@ use Rattle.params.proofs.Answers.{when-done}
 use Rattle.params.proofs.Ranges.{size-from}
 use Rattle.ring.specs.Poly.{plus, minus, times}
 use Rattle.ring.specs.Turn.{negating}
-use Rattle.ring.proofs.Tab.{length-tab}
+use Rattle.ring.proofs.Places.{length-plus, length-minus, length-times, length-negating}
 use Rattle.ring.proofs.Laws.{times-assoc, times-comm, times-plus, times-minus, times-negating}
 use Rattle.product.specs.Product.{productNumber, polyMulOut, polyMulAddOut}
 use Rattle.product.proofs.Laws.{product-passes}
@@ -26,23 +26,6 @@ module _ (p : Params) (r : InRange p) (a b o : List ℕ) (la : length a ≡ size
 
   pub poly-mul-add-done : polyMulAddOut p a b o ≡ plus (size p) o (times (size p) a b)
   poly-mul-add-done = when-done _ _ _ product-done
-
--- what the operations give has N words
-pub length-times : (N : ℕ) (a b : List ℕ) → length (times N a b) ≡ N
-unfolding times
-length-times N a b = length-tab N _
-
-pub length-plus : (N : ℕ) (a b : List ℕ) → length (plus N a b) ≡ N
-unfolding plus
-length-plus N a b = length-tab N _
-
-pub length-minus : (N : ℕ) (a b : List ℕ) → length (minus N a b) ≡ N
-unfolding minus
-length-minus N a b = length-tab N _
-
-pub length-negating : (N k : ℕ) (a : List ℕ) → length (negating N k a) ≡ N
-unfolding negating
-length-negating N k a = length-tab N _
 
 -- ---- the ring's laws, of the routine
 

@@ -6,29 +6,19 @@ ghost use Prim.Native.Nat.{suc, _+_, _-_, _*_, _≤_, _<_};
 ghost use lib.ListN.{length};
 ghost use Rattle.params.specs.Refusal.{answer};
 ghost use Rattle.ring.specs.Word.{at};
-ghost use Rattle.ring.specs.Sums.{tab};
 ghost use Rattle.ring.specs.Poly.{plus, times};
-ghost use Rattle.ring.specs.Loop.{addBy, accTo};
-ghost use Rattle.product.specs.Product.{productNumber, polyMulOut, polyMulAddOut, doubledAt, doubled};
+ghost use Rattle.product.specs.Product.{productNumber, polyMulOut, polyMulAddOut};
+ghost use Rattle.product.specs.Private.{doubledAt, doubled};
+ghost use Rattle.ring.specs.Private.{addBy, accTo};
 
 // The refusal of both routines, or 0.
 fn product_number(p: Params, la: usize, lb: usize, lo: usize) -> u32
     ensures { λ r. ⌜ r ≡ productNumber p la lb lo ⌝ }
 {
     let s = params::sizes_of(p);
-    if s.number != 0 {
-        return 1;
-    }
-    if la != s.size {
-        return 2;
-    }
-    if lb != s.size {
-        return 2;
-    }
-    if lo != s.size {
-        return 2;
-    }
-    0
+    let number = refusals::is(s.number, la, s.size, 2);
+    let number = refusals::is(number, lb, s.size, 2);
+    refusals::is(number, lo, s.size, 2)
 }
 
 // Word i of the doubled row.
@@ -102,23 +92,12 @@ fn add_product(a: &[u32], b: &[u32], out: &mut [u32])
     add_on(a, b, &mut twice[..words], out);
 }
 
-// Zero at every place.
-fn clear(out: &mut [u32])
-    ensures { λ _. ⌜ now (out .exit) ≡ tab (length (now (out .entry))) (λ i. 0) ⌝ }
-{
-    let mut i = 0;
-    while i < out.len() {
-        out[i] = 0;
-        i += 1;
-    }
-}
-
 // The product into out, whatever stood there.
 fn put_product(a: &[u32], b: &[u32], out: &mut [u32])
     requires { ⌜ (length (now a) ≡ length (now out)) × (length (now b) ≡ length (now out)) × (length (now out) ≤ 1024) ⌝ }
     ensures { λ _. ⌜ now (out .exit) ≡ times (length (now (out .entry))) (now (a .entry)) (now (b .entry)) ⌝ }
 {
-    clear(out);
+    words::fill(0, out);
     add_product(a, b, out);
 }
 

@@ -1,7 +1,7 @@
 -- Out of a table of refusals and back, once for every routine: the code's chain comes to the table's number, a number 0 tells what every check asks, and such facts give 0.
 -- Assumes nothing.
 use mathlib.Core.Bool.{Bool, true, false, _&&_}
-use mathlib.Core.List.{List, [], _∷_}
+use mathlib.Core.List.{List, [], _∷_, _++_}
 use mathlib.Core.Path.{_≡_, refl, sym, ap, _∙_}
 use Prim.Native.Nat.{ℕ, _<_}
 use native.Mathlib.Omega.{arith}
@@ -48,7 +48,7 @@ chain-step true m cs h e = e
 chain-step false m cs h e = chain-kept m cs (λ z. omega arith)
 
 -- from 0 it comes to the number of the first check that fails
-chain-first : (cs : List Check) → numbered cs ≡ true → chain 0 cs ≡ firstOf cs
+pub chain-first : (cs : List Check) → numbered cs ≡ true → chain 0 cs ≡ firstOf cs
 chain-first [] n = refl
 chain-first (c ∷ cs) n =
     let m = both _ _ n in
@@ -82,14 +82,14 @@ fact-passes (atMost x y n) e = le-leb x y e
 fact-passes (below x y n) e = lt-ltb x y e
 fact-passes (holds b n) e = e
 
-facts : (cs : List Check) → numbered cs ≡ true → firstOf cs ≡ 0 → Facts cs
+pub facts : (cs : List Check) → numbered cs ≡ true → firstOf cs ≡ 0 → Facts cs
 facts [] n e = tt
 facts (c ∷ cs) n e =
     let m = both _ _ n in
     let s = passed (passes c) (numberOf c) (firstOf cs) (ltb-true _ _ (m .0)) (sym (first-of c cs) ∙ e) in
     (fact c (s .0), facts cs (m .1) (s .1))
 
-none : (cs : List Check) → Facts cs → firstOf cs ≡ 0
+pub none : (cs : List Check) → Facts cs → firstOf cs ≡ 0
 none [] f = refl
 none (c ∷ cs) f = first-of c cs ∙ ap (λ (b : Bool). check b (numberOf c) (firstOf cs)) (fact-passes c (f .0)) ∙ none cs (f .1)
 
@@ -99,3 +99,36 @@ module _ (p : Params) (checks : List Check) where
 
   pub done : (paramsNumber p ≡ 0) × Facts checks → refusalBy p checks ≡ 0
   done f = rw (eq-eqb (paramsNumber p) 0 (f .0)) (none checks (f .1))
+
+-- ---- a table in two parts
+
+-- where the first part passes the second decides
+append-passed : (xs ys : List Check) → numbered xs ≡ true → firstOf xs ≡ 0 → firstOf (xs ++ ys) ≡ firstOf ys
+append-passed [] ys n e = refl
+append-passed (c ∷ cs) ys n e =
+    let m = both _ _ n in
+    let s = passed (passes c) (numberOf c) (firstOf cs) (ltb-true _ _ (m .0)) (sym (first-of c cs) ∙ e) in
+    first-of c (cs ++ ys) ∙ ap (λ (b : Bool). check b (numberOf c) (firstOf (cs ++ ys))) (s .0) ∙ append-passed cs ys (m .1) (s .1)
+
+-- and where it does not, it does
+append-kept : (xs ys : List Check) → (firstOf xs ≡ 0 → ⊥) → firstOf (xs ++ ys) ≡ firstOf xs
+append-kept [] ys h = absurd (h refl)
+append-kept (c ∷ cs) ys h = first-of c (cs ++ ys) ∙ go (passes c) (λ k. append-kept cs ys k) (λ e. h (first-of c cs ∙ e)) ∙ sym (first-of c cs)
+  where
+    go : (b : Bool) → ((firstOf cs ≡ 0 → ⊥) → firstOf (cs ++ ys) ≡ firstOf cs) → (check b (numberOf c) (firstOf cs) ≡ 0 → ⊥)
+        → check b (numberOf c) (firstOf (cs ++ ys)) ≡ check b (numberOf c) (firstOf cs)
+    go true rest k = rest k
+    go false rest k = refl
+
+module _ (p : Params) (checks more : List Check) where
+  pub then-more : numbered checks ≡ true → refusalBy p checks ≡ 0 → refusalBy p (checks ++ more) ≡ firstOf more
+  then-more n e =
+      let s = passed (eqb (paramsNumber p) 0) 1 (firstOf checks) (omega arith) e in
+      ap (λ (b : Bool). check b 1 (firstOf (checks ++ more))) (s .0) ∙ append-passed checks more n (s .1)
+
+  pub before-more : (refusalBy p checks ≡ 0 → ⊥) → refusalBy p checks ≡ refusalBy p (checks ++ more)
+  before-more h = go (eqb (paramsNumber p) 0) h
+    where
+      go : (b : Bool) → (check b 1 (firstOf checks) ≡ 0 → ⊥) → check b 1 (firstOf checks) ≡ check b 1 (firstOf (checks ++ more))
+      go true k = sym (append-kept checks more k)
+      go false k = refl

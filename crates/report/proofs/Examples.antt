@@ -5,7 +5,7 @@ use mathlib.Core.List.{List, [], _∷_, _++_}
 use Prim.Native.Nat.{ℕ}
 use Rattle.ring.specs.Sums.{tab}
 use Rattle.params.specs.Refusal.{answer}
-use Rattle.circuit.specs.Form.{answerOf, headAnswer}
+use Rattle.circuit.specs.Form.{answerOf, headFields}
 use Rattle.report.specs.Decimal.{decimalTo, decimal}
 use Rattle.report.specs.Text.{named, refusedText, textOf, describeNumber, describeOut, described, describeAnswer}
 
@@ -19,9 +19,9 @@ sevens n = tab n (λ i. 7)
 
 -- what is told: the length, or refusal 2 and the length 0; what is left: the text and the bytes behind it, or the slice as it was
 pub told : (describeAnswer [] 15 ≡ described (answer 0) 15) × (describeAnswer [] 17 ≡ described (answer 0) 15) × (describeAnswer [] 14 ≡ described (answer 2) 0)
-unfolding tab answerOf headAnswer decimalTo decimal named refusedText textOf describeNumber describeAnswer
+unfolding tab answerOf headFields decimalTo decimal named refusedText textOf describeNumber describeAnswer
 told = (refl, refl, refl)
 
 pub left : (describeOut [] (sevens 15) ≡ text) × (describeOut [] (sevens 17) ≡ text ++ sevens 2) × (describeOut [] (sevens 14) ≡ sevens 14)
-unfolding tab answerOf headAnswer decimalTo decimal named refusedText textOf describeNumber describeOut
+unfolding tab answerOf headFields decimalTo decimal named refusedText textOf describeNumber describeOut
 left = (refl, refl, refl)

@@ -9,15 +9,17 @@ use Prim.Native.Nat.{ℕ, zero, suc, _+_, _*_, _^_, _≤_, _<_}
 use native.Mathlib.Decide.{ℕ-discrete}
 use native.Mathlib.Omega.{arith}
 use borrow.Author.Tests.{eq-eqb, ne-eqb}
-use lib.Dec.{lit<, leb, ltb, eqb}
+use lib.Dec.{T, lit<, leb, ltb, eqb, ltb→lt}
 use lib.ListN.{length, take, drop, length-append}
 use lib.Seq.{take-at}
 use Rattle.ring.specs.Word.{at}
 use Rattle.params.specs.declared.Answer.{Answer}
 use Rattle.params.specs.Refusal.{answer}
-use Rattle.circuit.specs.Kinds.{lastKind}
-use Rattle.circuit.specs.Form.{version, inputs, gates, outputs, wires, gatePlace, kindAt, outputPlace, outputAt, longest, refusal, checkAt, orElse, first, countsAnswer, headAnswer, operandGood, operandsAnswer, gateAnswer, outputAnswer, answerOf}
+use Rattle.kinds.specs.Kinds.{lastKind}
+use Rattle.circuit.specs.Form.{version, inputs, gates, outputs, wires, gatePlace, kindAt, outputPlace, outputAt, longest, orElse, first, operandGood, outputAnswer, answerOf, gateFields, headFields, FieldCheck, asks, firstAt}
+use Rattle.circuit.specs.Private.{gateAnswer, headAnswer, refusal}
 use Rattle.circuit.specs.Valid.{Head, Valid}
+use Rattle.kinds.proofs.Table.{both, both-left, both-right}
 use Rattle.circuit.proofs.Accept.{lt-or-ge, head-good, accepted}
 use Rattle.circuit.proofs.Longest.{answer-cut, accepted-whole}
 use Rattle.report.specs.declared.Described.{Described}
@@ -51,47 +53,44 @@ first-small f i (suc n) h = else-small (f i) (first f (suc i) n) (h i (omega ari
 little : (n p : ℕ) → n < 10000000000 → p < 10000000000 → Small (refusal n p)
 little n p a b = record { number-to = a; place-to = b }
 
--- the checks of the head, whatever their tests give
-head-chain : (t0 t1 t2 t3 t4 t5 t6 t7 t8 t9 : Bool) → Small (checkAt t0 8 0 (checkAt t1 6 0 (checkAt t2 6 0 (checkAt t3 6 0 (checkAt t4 7 3 (checkAt t5 8 5 (checkAt t6 8 7 (checkAt t7 8 9 (checkAt t8 8 9 (checkAt t9 8 11 (answer 0)))))))))))
-head-chain false t1 t2 t3 t4 t5 t6 t7 t8 t9 = little 8 0 (lit< tt) (lit< tt)
-head-chain true false t2 t3 t4 t5 t6 t7 t8 t9 = little 6 0 (lit< tt) (lit< tt)
-head-chain true true false t3 t4 t5 t6 t7 t8 t9 = little 6 0 (lit< tt) (lit< tt)
-head-chain true true true false t4 t5 t6 t7 t8 t9 = little 6 0 (lit< tt) (lit< tt)
-head-chain true true true true false t5 t6 t7 t8 t9 = little 7 3 (lit< tt) (lit< tt)
-head-chain true true true true true false t6 t7 t8 t9 = little 8 5 (lit< tt) (lit< tt)
-head-chain true true true true true true false t7 t8 t9 = little 8 7 (lit< tt) (lit< tt)
-head-chain true true true true true true true false t8 t9 = little 8 9 (lit< tt) (lit< tt)
-head-chain true true true true true true true true false t9 = little 8 9 (lit< tt) (lit< tt)
-head-chain true true true true true true true true true false = little 8 11 (lit< tt) (lit< tt)
-head-chain true true true true true true true true true true = done-small
+-- the numbers and places of checks are small
+abbrev Littles : List FieldCheck → Type 0
+Littles [] = Unit {0}
+Littles (asks test n p ∷ checks) = ((n < 10000000000) × (p < 10000000000)) × Littles checks
 
--- the checks of a gate that begins at place p
-gate-chain : (p : ℕ) → p < 9000000000 → (t0 t1 t2 t3 t4 : Bool) → Small (checkAt t0 9 p (checkAt t1 9 (p + 1) (checkAt t2 9 (p + 2) (checkAt t3 9 (p + 4) (checkAt t4 9 (p + 6) (answer 0))))))
-gate-chain p h false t1 t2 t3 t4 = little 9 p (lit< tt) (omega arith)
-gate-chain p h true false t2 t3 t4 = little 9 (p + 1) (lit< tt) (omega arith)
-gate-chain p h true true false t3 t4 = little 9 (p + 2) (lit< tt) (omega arith)
-gate-chain p h true true true false t4 = little 9 (p + 4) (lit< tt) (omega arith)
-gate-chain p h true true true true false = little 9 (p + 6) (lit< tt) (omega arith)
-gate-chain p h true true true true true = done-small
+-- and so is what they answer, whatever their tests give
+checks-small : (checks : List FieldCheck) → Littles checks → Small (firstAt checks)
+checks-small [] l = done-small
+checks-small (asks true n p ∷ checks) l = checks-small checks (l .1)
+checks-small (asks false n p ∷ checks) l = little n p (l .0 .0) (l .0 .1)
 
-output-chain : (p : ℕ) → p < 9000000000 → (t : Bool) → Small (checkAt t 10 p (answer 0))
-output-chain p h false = little 10 p (lit< tt) (omega arith)
-output-chain p h true = done-small
+-- where they are numerals, it computes that they are
+abbrev littleOnes : List FieldCheck → Bool
+littleOnes [] = true
+littleOnes (asks test n p ∷ checks) = both (both (ltb n 10000000000) (ltb p 10000000000)) (littleOnes checks)
+
+computed : (checks : List FieldCheck) → T (littleOnes checks) → Littles checks
+computed [] t = tt
+computed (asks test n p ∷ checks) t =
+    let a = ltb n 10000000000 in
+    let b = ltb p 10000000000 in
+    let h = both-left (both a b) (littleOnes checks) t in
+    ((ltb→lt n 10000000000 (both-left a b h), ltb→lt p 10000000000 (both-right a b h)), computed checks (both-right (both a b) (littleOnes checks) t))
 
 module _ (bs : List ℕ) where
   head-small : Small (headAnswer bs)
-  unfolding headAnswer countsAnswer
-  head-small =
-      head-chain (leb 11 (length bs)) (eqb (at bs 0) 69) (eqb (at bs 1) 71) (eqb (at bs 2) 76) (eqb (version bs) 1) (leb (inputs bs) 256) (leb (gates bs) 1024) (leb 1 (outputs bs)) (leb (outputs bs) 64) (eqb (length bs) (outputPlace bs (outputs bs)))
+  unfolding headFields
+  head-small = checks-small (headFields bs) (computed (headFields bs) tt)
 
   gate-small : (g : ℕ) → g < 1024 → Small (gateAnswer bs g)
-  unfolding gateAnswer operandsAnswer
+  unfolding gateFields
   gate-small g h =
-      gate-chain (gatePlace g) (omega arith) (leb (kindAt bs g) lastKind) (eqb (at bs (gatePlace g + 1)) 0) (operandGood bs g 0) (operandGood bs g 1) (operandGood bs g 2)
+      let at : (d : ℕ) → d < 8 → (9 < 10000000000) × (gatePlace g + d < 10000000000) = λ d l. (lit< tt, omega arith) in
+      checks-small (gateFields bs g) ((lit< tt, omega arith), (at 1 (lit< tt), (at 2 (lit< tt), (at 4 (lit< tt), (at 6 (lit< tt), tt)))))
 
   output-small : (o : ℕ) → gates bs ≤ 1024 → o < 64 → Small (outputAnswer bs o)
   unfolding outputAnswer
-  output-small o g h = output-chain (outputPlace bs o) (omega arith) (ltb (outputAt bs o) (wires bs))
+  output-small o g h = checks-small (asks (ltb (outputAt bs o) (wires bs)) 10 (outputPlace bs o) ∷ []) ((lit< tt, omega arith), tt)
 
   answer-small : Small (answerOf bs)
   unfolding answerOf

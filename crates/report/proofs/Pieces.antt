@@ -17,7 +17,7 @@ use Rattle.circuit.specs.Valid.{Head, Valid}
 use Rattle.circuit.specs.Plain.{outputBits, wiresOf, workOf}
 use Rattle.circuit.proofs.Laws.{work-to}
 use Rattle.report.specs.Decimal.{decimal}
-use Rattle.report.specs.Splice.{splice}
+use Rattle.report.specs.Private.{splice}
 use Rattle.report.specs.Text.{eglWord, inputsWord, gatesWord, named, bitChar, bitsText, countsText, lineText, rowInputs, rowText, rowsTo}
 use Rattle.report.proofs.Digits.{length-ten}
 use Rattle.report.proofs.Spliced.{splice-none, splice-next}

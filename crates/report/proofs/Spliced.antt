@@ -13,7 +13,7 @@ use mir.Val.{boolByte}
 use Rattle.ring.specs.Word.{at}
 use Rattle.ring.specs.Sums.{tab}
 use Rattle.ring.proofs.Tab.{tab-of, tab-snoc, length-tab}
-use Rattle.report.specs.Splice.{splice}
+use Rattle.report.specs.Private.{splice}
 
 -- the front up to the end of a piece
 front : (o : List ℕ) (i : ℕ) (p : List ℕ) → i ≤ length o → length (take i o ++ p) ≡ i + length p

@@ -17,7 +17,7 @@ use Rattle.circuit.specs.Valid.{Valid}
 use Rattle.circuit.specs.Plain.{workOf, workAnswer}
 use Rattle.circuit.proofs.Accept.{lt-or-ge}
 use Rattle.report.specs.declared.Described.{Described}
-use Rattle.report.specs.Splice.{splice}
+use Rattle.report.specs.Private.{splice}
 use Rattle.report.specs.Text.{outputsWord, workWord, named, countsText, headText, rowsTo, tableText, refusedText, textOf, describeNumber, describeOut, described, describeAnswer}
 use Rattle.report.proofs.Spliced.{splice-front}
 use Rattle.report.proofs.Pieces.{length-named, length-counts, work-small}

@@ -1,3 +1,3 @@
 pub mod Decimal
-pub mod Splice
+pub mod Private
 pub mod Text

@@ -7,9 +7,10 @@ ghost use Prim.Native.Nat.{_+_, _/_, _%_, _^_, _≤_, _<_};
 ghost use lib.ListN.{length};
 ghost use Rattle.ring.specs.Sums.{tab};
 ghost use Rattle.params.specs.Refusal.{answer};
-ghost use Rattle.circuit.specs.Form.{inputs, outputs, answerOf, refusal};
+ghost use Rattle.circuit.specs.Form.{inputs, outputs, answerOf};
+ghost use Rattle.circuit.specs.Private.{refusal};
 ghost use Rattle.circuit.specs.Plain.{workOf};
-ghost use Rattle.report.specs.Splice.{splice};
+ghost use Rattle.report.specs.Private.{splice};
 ghost use Rattle.report.specs.Text.{countsText, headText, refusedText, rowText, rowsTo, textOf};
 
 // A refusal's line.
@@ -48,12 +49,12 @@ fn put_head(bytes: &[u8], work: u32, out: &mut [u8]) -> usize
     put_byte(out, c, 10)
 }
 
-// 2^i.
+// 2^i as a count.
 fn two_to(i: usize) -> usize
     requires { ⌜ i ≤ 4 ⌝ }
     ensures { λ r. ⌜ r ≡ 2 ^ i ⌝ }
 {
-    1usize << i
+    ring::power(i as u32) as usize
 }
 
 // The input bits of row r.

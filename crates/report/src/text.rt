@@ -4,7 +4,7 @@ ghost use mathlib.Core.List.{[], _∷_};
 ghost use Prim.Native.Nat.{_+_, _≤_, _<_};
 ghost use lib.ListN.{length};
 ghost use Rattle.report.specs.Decimal.{decimal};
-ghost use Rattle.report.specs.Splice.{splice};
+ghost use Rattle.report.specs.Private.{splice};
 ghost use Rattle.report.specs.Text.{named, bitsText, lineText};
 
 // One byte.

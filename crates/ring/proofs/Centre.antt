@@ -2,19 +2,19 @@
 -- into -2^31 to 2^31 - 1 is settled by its word (`centre`, `centre-red`, `centre-only`).
 -- Assumes nothing.
 use mathlib.Core.Path.{_≡_, refl, sym, ap, ap₂, _∙_, fun-ext}
-use mathlib.Core.Bool.{Bool, true, false, not, cond}
+use mathlib.Core.Bool.{Bool, cond}
 use mathlib.Core.List.{List, [], _∷_}
 use Prim.Native.Nat.{ℕ, zero, suc, _+_, _*_, _-_, _%_, _^_, _≤_, _<_}
-use native.Mathlib.Nat.{mod-eq-of-lt}
+use native.Mathlib.Nat.{mod-eq-of-lt, mod-lt}
 use native.Mathlib.Omega.{arith}
-use lib.Dec.{T, leb, ltb, ltb→lt, nltb→le, nleb→lt}
+use lib.Dec.{leb, ltb, ltb→lt, nltb→le, nleb→lt}
 use lib.IntN.{ℤ, pos, negsuc}
 use lib.Signed.{mag}
 use Rattle.ring.proofs.Ring.{CommRing, neg-neg}
 use Rattle.ring.proofs.Sum.{sum, sum-cong}
-use Rattle.ring.proofs.Word.{Words, word, word-mul, word-mod, word-sum, word-neg}
+use Rattle.ring.proofs.Word.{word-mul, word-mod, word-sum, word-neg}
 use Rattle.ring.proofs.Whole.{Wholes, Hom, map-neg, map-sum, red, reduce}
-use Rattle.ring.specs.Centre.{H, centre}
+use Rattle.ring.specs.Centre.{H, centre, wordOf}
 use Rattle.ring.specs.Word.{Q, Q-pos, neg, at}
 use Rattle.ring.specs.Poly.{before, times}
 use Rattle.ring.proofs.Value.{W, 𝓦, w, w-neg, by-test}
@@ -95,3 +95,8 @@ centre-only (negsuc n) x m l q =
     same : Q - suc n ≡ x
     same = sym (mod-eq-of-lt (let u : Q - suc n < Q = omega (arith, Q-pos) in u))
         ∙ w-injective (Q - suc n) x (word-neg Q Q-pos (suc n) (let u : suc n ≤ Q = omega (arith, Q-is) in u) ∙ q) ∙ mod-eq-of-lt l
+
+-- the word of a whole number is a word
+pub number-below : (x : ℤ) → wordOf x < Q
+number-below (pos n) = mod-lt n Q-pos
+number-below (negsuc n) = mod-lt (neg (suc n)) Q-pos

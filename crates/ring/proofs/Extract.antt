@@ -1,20 +1,23 @@
 -- The phase of an extracted sample: the coefficient of the phase, and one for each one of the key after the place, for there the Rust
 -- complements instead of negating.
 -- Assumes nothing.
-use mathlib.Core.Path.{_≡_, refl, sym, ap, ap₂, _∙_, fun-ext}
+use mathlib.Core.Path.{_≡_, sym, ap, ap₂, _∙_}
 use mathlib.Core.Bool.{Bool, true, false, cond}
-use mathlib.Core.List.{List, [], _∷_}
+use mathlib.Core.List.{List, [], _∷_, _++_}
 use Prim.Native.Nat.{ℕ, zero, suc, _+_, _*_, _-_, _%_, _≤_, _<_}
-use lib.Dec.{T, leb}
+use lib.Dec.{leb}
+use lib.ListN.{length, List·getD-append}
+use lib.Seq.{getD-at}
 use Rattle.ring.proofs.Ring.{CommRing, ring}
 use Rattle.ring.proofs.Sum.{sum, sum-cong, sum-add}
 use Rattle.ring.proofs.Word.{word-add, word-mul, word-mod, word-sum, word-fst, word-zero, word-one}
-use Rattle.ring.specs.Phase.{after, phase, extract, inner, samplePhase}
-use Rattle.ring.specs.Sums.{sumTo, tab}
+use Rattle.ring.specs.Phase.{after, phase, extract, inner, phaseOf}
+use Rattle.ring.specs.Sums.{sumTo}
 use Rattle.ring.specs.Word.{Q, Q-pos, neg, comp, at}
 use Rattle.ring.specs.Poly.{before, times, minus}
 use Rattle.ring.proofs.Value.{W, 𝓦, w, w-neg, w-comp}
-use Rattle.ring.proofs.Tab.{at-tab}
+use Rattle.ring.proofs.Tab.{at-tab, length-tab}
+use Rattle.ring.proofs.SumLaws.{sum-ext}
 use Rattle.ring.proofs.Laws.{times-comm}
 open CommRing 𝓦 using (𝟘, 𝟙, _⊕_, _⊗_, ⊖_)
 
@@ -29,10 +32,17 @@ term : (c : Bool) (x y z : ℕ) → w (z * cond c x (neg y)) ≡ w (cond c x (co
 term true x y z = rw (word-mul Q Q-pos z x, word-mul Q Q-pos x z, ← word-zero Q Q-pos) (simp (ring, 𝓦))
 term false x y z = rw (word-mul Q Q-pos z (neg y), word-mul Q Q-pos (comp y) z, w-neg, w-comp, ← word-one Q Q-pos) (simp (ring, 𝓦))
 
+-- the phase of a sample, by its n masks m and its last word b
+pub phase-row : (n : ℕ) (key m : List ℕ) (b : ℕ) → length m ≡ n → phaseOf n key (m ++ (b ∷ [])) ≡ (b + neg (inner n key m)) % Q
+unfolding phaseOf inner
+phase-row n key m b e =
+    ap₂ (λ (x s : ℕ). (x + neg s) % Q) (getD-at m b [] 0 n e)
+    (sum-ext n (λ i. at (m ++ (b ∷ [])) i * at key i) (λ i. at m i * at key i) (λ i l. ap (λ (x : ℕ). x * at key i) (List·getD-append m (b ∷ []) 0 i (rw e l))))
+
 pub phase-extract : (N : ℕ) → 0 < N → (k : ℕ) (z a b : List ℕ) → k < N
-    → samplePhase N z (extract N k a) (at b k) ≡ (at (phase N z a b) k + after N k z) % Q
-unfolding samplePhase inner phase minus times before extract after
-phase-extract N h k z a b l = w-injective _ _ (left ∙ sym right)
+    → phaseOf N z (extract N k a ++ (at b k ∷ [])) ≡ (at (phase N z a b) k + after N k z) % Q
+unfolding inner phase minus times before extract after
+phase-extract N h k z a b l = phase-row N z (extract N k a) (at b k) (length-tab N _) ∙ w-injective _ _ (left ∙ sym right)
   where
     s : W
     s = sum 𝓦 N (λ i. w (at (extract N k a) i * at z i))

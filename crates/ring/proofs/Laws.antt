@@ -1,13 +1,12 @@
 -- The laws of the lists of coefficients: the product is associative and commutative and distributes, and the phase of a sum, of a difference
 -- and of a rotation by the Rust, which complements. Each is a law of rings, carried over by `value`.
 -- Assumes nothing.
-use mathlib.Core.Path.{_≡_, refl, sym, ap, ap₂, _∙_, fun-ext}
-use mathlib.Core.Bool.{Bool, true, false, cond}
+use mathlib.Core.Path.{_≡_, refl, sym, ap, _∙_}
+use mathlib.Core.Bool.{Bool, cond}
 use mathlib.Core.List.{List, [], _∷_}
 use Prim.Native.Nat.{ℕ, zero, suc, _+_, _*_, _-_, _%_, _≤_, _<_}
 use native.Mathlib.Nat.{mod-lt}
 use native.Mathlib.Omega.{arith}
-use lib.ListN.{length}
 use lib.Dec.{ltb, lit<}
 use Rattle.ring.proofs.Ring.{CommRing, ring}
 use Rattle.ring.proofs.Phase as R
@@ -17,7 +16,7 @@ use Rattle.ring.specs.Sums.{tab}
 use Rattle.ring.specs.Poly.{plus, minus, times, scale, total}
 use Rattle.ring.specs.Turn.{source, negating, rotated, complemented}
 use Rattle.ring.specs.Phase.{phase}
-use Rattle.ring.proofs.Value.{Reduced, below, Proper, proper, proper-reduced, by-value, tab-reduced, 𝓦, P, 𝓟, X, X-add, value, value-plus, value-minus, value-times, value-negating, value-rotated, value-scale, value-total, value-one, const, const-one, const-zero, const-mul, by-test}
+use Rattle.ring.proofs.Value.{Reduced, below, Proper, proper, proper-reduced, by-value, tab-reduced, P, 𝓟, X, X-add, value, value-plus, value-minus, value-times, value-negating, value-rotated, value-scale, value-total, value-one, const, const-one, const-zero, const-mul, by-test}
 use Rattle.ring.proofs.Tab.{length-tab}
 
 -- ---- every operation gives N words, and may be replaced by its value

@@ -1,7 +1,12 @@
 pub mod Tab
+pub mod Parts
+pub mod Places
+pub mod Joins
 pub mod SumLaws
 pub mod Loop
 pub mod Words
+pub mod Fields
+pub mod Samples
 pub mod Ring
 pub mod Solve
 pub mod Sum

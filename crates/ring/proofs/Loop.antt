@@ -4,15 +4,15 @@
 use mathlib.Core.Path.{_≡_, refl, sym, ap, _∙_}
 use mathlib.Core.List.{List}
 use Prim.Native.Nat.{ℕ, zero, suc, _+_, _%_, _≤_, _<_}
-use native.Mathlib.Nat.{mod-eq-of-lt, mod-add-mod, le-antisymm, add-zero, mod-lt}
+use native.Mathlib.Nat.{mod-eq-of-lt, le-antisymm, add-zero}
 use native.Mathlib.Numerals.{add-one}
 use native.Mathlib.Omega.{arith}
-use lib.ListN.{length, getD}
-use Rattle.ring.specs.Word.{Q, Q-pos, at}
+use lib.ListN.{length}
+use Rattle.ring.specs.Word.{Q, at}
 use Rattle.ring.specs.Sums.{sumTo, tab}
 use Rattle.ring.specs.Poly.{plus}
-use Rattle.ring.specs.Loop.{addBy, accTo}
-use Rattle.ring.proofs.Tab.{length-tab, at-tab, tab-ext, tab-of, tab-below}
+use Rattle.ring.proofs.Tab.{length-tab, at-tab, tab-ext, tab-of}
+use Rattle.ring.specs.Private.{addBy, accTo}
 
 pub length-add : (o : List ℕ) (f : ℕ → ℕ) → length (addBy o f) ≡ length o
 unfolding addBy

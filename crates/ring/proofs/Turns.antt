@@ -1,12 +1,12 @@
 -- Rotations by the Rust compose, amounts added modulo 2N: the list goes on past its end complemented, and a rotation moves along it.
 -- Assumes nothing.
-use mathlib.Core.Path.{_≡_, refl, sym, ap, _∙_, fun-ext}
-use mathlib.Core.Bool.{Bool, true, false, not, cond}
+use mathlib.Core.Path.{_≡_, sym, ap, _∙_, fun-ext}
+use mathlib.Core.Bool.{Bool, cond}
 use mathlib.Core.List.{List}
 use Prim.Native.Nat.{ℕ, zero, suc, _+_, _*_, _-_, _/_, _%_, _≤_, _<_}
 use native.Mathlib.Nat.{mod-lt, mod-eq-of-lt, mod-add-mod, add-mod-right, add-mul-mod-self-left, div-add-mod}
 use native.Mathlib.Omega.{arith}
-use lib.Dec.{T, ltb, ltb→lt, nltb→le}
+use lib.Dec.{ltb, ltb→lt, nltb→le}
 use Rattle.ring.proofs.Value.{Reduced, below, by-test}
 use Rattle.ring.proofs.Tab.{at-tab}
 use borrow.Author.Tests.{lt-ltb, le-ltb}

@@ -1,21 +1,21 @@
 -- The lists of coefficients as elements of the ring of polynomials modulo X^N + 1 over the words: `value`, what each operation of `Coef` means
 -- there, and that reduced lists with one value are one list. Laws of rings so become laws of lists.
 -- Assumes nothing.
-use mathlib.Core.Path.{_≡_, refl, sym, ap, ap₂, _∙_, fun-ext}
+use mathlib.Core.Path.{_≡_, sym, ap, ap₂, _∙_, fun-ext}
 use mathlib.Core.Bool.{Bool, true, false, not, cond}
 use mathlib.Core.List.{List, [], _∷_}
 use Prim.Native.Nat.{ℕ, zero, suc, _+_, _*_, _-_, _%_, _/_, _≤_, _<_}
-use native.Mathlib.Nat.{add-comm as +-comm, mod-lt, mod-eq-of-lt, div-add-mod, le-of-lt, le-refl, lt-of-lt-of-le}
+use native.Mathlib.Nat.{add-comm as +-comm, mod-lt, mod-eq-of-lt, le-of-lt}
 use native.Mathlib.Omega.{arith}
 use lib.Dec.{T, leb, ltb, leb→le, nleb→lt, ltb→lt, nltb→le}
-use lib.ListN.{getD, length}
+use lib.ListN.{length}
 use lib.Seq.{ext-getD}
 use Rattle.ring.proofs.Tab.{at-tab, tab-below}
 use Rattle.ring.proofs.Ring.{CommRing, neg-zero, one-mul, zero-mul}
 use Rattle.ring.proofs.Sum.{sum, sum-cong}
-use Rattle.ring.proofs.Anti.{Anti, turn, conv, turn-conv, turn-turn, anti-before, anti-wrap, anti-source}
+use Rattle.ring.proofs.Anti.{turn, conv, turn-conv, turn-turn, anti-before, anti-wrap, anti-source}
 use Rattle.ring.proofs.Poly.{Poly, Polys, poly, poly-eq, turned, scaled, scaled-is, delta, ext, ext-anti, ext-below, anti-eq}
-use Rattle.ring.proofs.Word.{Word, Words, word, word-eq, word-add, word-mul, word-mod, word-neg, word-comp, word-sum, word-val, word-fst, word-zero, word-one}
+use Rattle.ring.proofs.Word.{Word, Words, word, word-add, word-mul, word-mod, word-neg, word-comp, word-sum, word-fst, word-zero, word-one}
 use Rattle.ring.specs.Word.{Q, Q-pos, neg, comp, at}
 use Rattle.ring.specs.Sums.{tab}
 use Rattle.ring.specs.Poly.{plus, minus, before, times, scale, total}

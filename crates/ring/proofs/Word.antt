@@ -1,6 +1,6 @@
 -- The numbers below M, with sums and products reduced modulo M, are a commutative ring (`Words`); `word n` is n reduced.
 -- Assumes nothing.
-use mathlib.Core.Path.{_≡_, refl, sym, ap, _∙_, fun-ext}
+use mathlib.Core.Path.{_≡_, refl, sym, ap, _∙_}
 use mathlib.Core.HLevel.{Σ-set, Σ-prop-path, prop→set, hedberg}
 use Prim.Native.Nat.{ℕ, zero, suc, _+_, _*_, _-_, _%_, _/_, _≤_, _<_}
 use native.Mathlib.Nat.{add-comm as +-comm, add-assoc as +-assoc, add-zero as +-zero, mul-comm as *-comm, mul-assoc as *-assoc, mul-one as *-one, mul-add as *-+, mod-add-mod, add-mod-mod, mod-lt, mod-eq-of-lt, mod-self, mod-mod, zero-mod, add-mod, div-add-mod, add-mul-mod-self-left}

@@ -1,12 +1,12 @@
 -- Laws of single words: negation and products modulo Q, and bounds. Remainders by a numeral are linear for omega; a factor goes by div-add-mod.
 -- Assumes nothing.
-use mathlib.Core.Path.{_≡_, refl, sym, ap, _∙_}
+use mathlib.Core.Path.{_≡_, sym, ap, _∙_}
 use Prim.Native.Nat.{ℕ, _+_, _-_, _*_, _/_, _%_, _^_, _≤_, _<_}
-use native.Mathlib.Nat.{le-of-lt, lt-of-le-of-lt, mul-le-mul-left, one-mul, div-add-mod, mod-mod, mul-comm, mod-lt}
+use native.Mathlib.Nat.{le-of-lt, lt-of-le-of-lt, mul-le-mul-left, one-mul, div-add-mod, mod-mod, mul-comm, mod-eq-of-lt}
 use native.Mathlib.Omega.{arith}
 use lib.Dec.{lit<}
-use lib.Pow.{pow-add, shl-lt, shl-exact}
-use Rattle.ring.specs.Word.{Q, Q-pos, neg, comp}
+use lib.Pow.{pow-add, pow-mono, shl-lt, shl-exact}
+use Rattle.ring.specs.Word.{Q, neg, comp}
 
 -- a product of two words fits 64 bits
 pub mul-lt-pow : {a b : ℕ} (s t : ℕ) → a < 2 ^ s → b < 2 ^ t → a * b < 2 ^ (s + t)
@@ -15,6 +15,14 @@ mul-lt-pow {a} s t ha hb = lt-of-le-of-lt (mul-le-mul-left a (le-of-lt hb)) (shl
 -- `1 << s` at 32 bits
 pub one-shl : (s : ℕ) → s < 32 → (1 * 2 ^ s) % 2 ^ 32 ≡ 2 ^ s
 one-shl s h = shl-exact {a = 1} 1 s 32 (lit< tt) (omega arith) ∙ one-mul (2 ^ s)
+
+-- below 32, what `ring::power` gives is the power itself
+pub power-below : (s : ℕ) → s < 32 → 2 ^ s % Q ≡ 2 ^ s
+unfolding Q
+power-below s h = mod-eq-of-lt (pow-mono-lt s h)
+  where
+    pow-mono-lt : (s : ℕ) → s < 32 → 2 ^ s < 4294967296
+    pow-mono-lt s h = let b = pow-mono {i = s} {j = 31} (omega arith) in omega arith
 
 -- from 32 on, a power of 2 is a multiple of Q
 pub power-past : (s : ℕ) → 32 ≤ s → 0 ≡ 2 ^ s % Q
@@ -36,6 +44,15 @@ mul-mod-r a c = ap (λ (n : ℕ). n % Q) (mul-comm a (c % Q)) ∙ mul-mod-l c a 
 pub neg-mod : (x : ℕ) → neg (x % Q) ≡ neg x
 unfolding neg
 neg-mod x = ap (λ (y : ℕ). Q - y) (mod-mod x Q)
+
+pub neg-plus : (s d : ℕ) → neg (s + d) % Q ≡ (neg s + neg d) % Q
+unfolding neg Q
+neg-plus s d = omega arith
+
+-- what is added counts modulo Q
+pub glue : (a x y : ℕ) → x % Q ≡ y % Q → (a + x) % Q ≡ (a + y) % Q
+unfolding Q
+glue a x y e = omega arith
 
 -- neg is what is wanted of it
 pub neg-adds : (x : ℕ) → (x + neg x) % Q ≡ 0

@@ -7,4 +7,4 @@ pub mod Pair
 pub mod Turn
 pub mod Phase
 pub mod Centre
-pub mod Loop
+pub mod Private

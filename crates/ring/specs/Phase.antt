@@ -15,9 +15,9 @@ phase N z a b = minus N b (times N a z)
 unfoldable pub inner : ℕ → List ℕ → List ℕ → ℕ
 inner n key a = sumTo n (λ i. at a i * at key i)
 
--- The phase of the sample with n masks a and last word b: b - a·key.
-unfoldable pub samplePhase : ℕ → List ℕ → List ℕ → ℕ → ℕ
-samplePhase n key a b = (b + neg (inner n key a)) % Q
+-- The phase of the ciphertext c of n masks and b, its last word: b - masks·key (01, Drift).
+unfoldable pub phaseOf : ℕ → List ℕ → List ℕ → ℕ
+phaseOf n key c = (at c n + neg (inner n key c)) % Q
 
 -- The paper's trivial sample (0, c): n masks that are 0, and c last.
 unfoldable pub trivial : ℕ → ℕ → List ℕ

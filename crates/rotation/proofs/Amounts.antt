@@ -5,16 +5,15 @@ use Prim.Native.Nat.{ℕ, suc, _+_, _-_, _*_, _/_, _%_, _^_, _≤_, _<_}
 use native.Mathlib.Nat.{mod-lt, two-pow-succ, div-lt-iff-lt-mul}
 use native.Mathlib.Omega.{arith}
 use lib.Dec.{lit<}
-use lib.Pow.{pow-add, pow-pos, pow-mono, shr-lt}
+use lib.Pow.{pow-add, pow-pos}
 use Rattle.params.specs.declared.Params.{Params}
 use Rattle.params.specs.declared.Answer.{Answer}
-use Rattle.params.specs.Refusal.{answer, ifDone}
+use Rattle.params.specs.Refusal.{answer}
 use Rattle.params.specs.Ranges.{paramsNumber, InRange}
 use Rattle.params.specs.Sizes.{size}
-use Rattle.params.proofs.Answers.{kept, done, when-done, when-refused}
-use Rattle.params.proofs.Ranges.{size-to}
+use Rattle.params.proofs.Answers.{kept, done, when-done}
 use Rattle.ring.specs.Word.{Q, Q-pos}
-use Rattle.utils.specs.declared.Amount.{Amount}
+use Rattle.ring.proofs.Words.{power-below}
 use Rattle.rotation.specs.Amount.{half, step, maskAmount, bodyAmount, roundedTo}
 use Rattle.rotation.specs.declared.Rounded.{Rounded}
 
@@ -22,6 +21,18 @@ module _ (p : Params) (r : InRange p) where
   -- 2N as a power
   pub turn-is : 2 ^ (p .nbit + 1) ≡ size p + size p
   turn-is = pow-add 2 (p .nbit) 1 ∙ (let q : 2 ^ p .nbit * 2 ^ 1 ≡ 2 ^ p .nbit + 2 ^ p .nbit = omega arith in q)
+
+  -- what `ring::power` gives of them
+  pub half-power : 2 ^ (30 - p .nbit) % Q ≡ half p
+  unfolding half
+  half-power = power-below (30 - p .nbit) (omega (arith, r .nbit-to))
+
+  pub step-power : 2 ^ (31 - p .nbit) % Q ≡ step p
+  unfolding step
+  step-power = power-below (31 - p .nbit) (omega (arith, r .nbit-from))
+
+  pub turn-power : 2 ^ (p .nbit + 1) % Q ≡ size p + size p
+  turn-power = power-below (p .nbit + 1) (omega (arith, r .nbit-to)) ∙ turn-is
 
   -- 2N steps make a turn
   pub turn-steps : (size p + size p) * step p ≡ Q

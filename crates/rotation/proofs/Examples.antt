@@ -4,7 +4,7 @@
 use mathlib.Core.Path.{_≡_, refl}
 use Prim.Native.Nat.{ℕ}
 use Rattle.params.specs.declared.Params.{Params}
-use Rattle.params.specs.Ranges.{paramsNumber, switchingNumber}
+use Rattle.params.specs.Ranges.{paramsNumber}
 use Rattle.params.specs.Published.{numbers, security128}
 use Rattle.ring.specs.Word.{Q}
 use Rattle.rotation.specs.Amount.{half, step, maskAmount, bodyAmount}
@@ -19,5 +19,5 @@ pub examples :
     × (rotateNumber four 4 4 9 ≡ 3)
     × (bodyAmount security128 0xFFEFFFFF ≡ 1)
     × (maskAmount security128 0xFFF00000 ≡ 0)
-unfolding Q rotateNumber paramsNumber switchingNumber bodyAmount maskAmount half step
+unfolding Q rotateNumber paramsNumber bodyAmount maskAmount half step
 examples = (refl, refl, refl, refl)

@@ -2,7 +2,7 @@
 -- word, and the words are told apart by the place that each comes from.
 -- Assumes nothing.
 use mathlib.Core.Path.{_≡_, refl, sym, ap, ap₂, _∙_}
-use mathlib.Core.Bool.{Bool, cond}
+use mathlib.Core.Bool.{cond}
 use mathlib.Core.List.{List, [], _++_, append-nil}
 use Prim.Native.Nat.{ℕ, _+_, _-_, _%_, _≤_, _<_}
 use native.Mathlib.Nat.{mod-eq-of-lt, add-mod-right}
@@ -10,22 +10,17 @@ use native.Mathlib.Decide.{decLt}
 use native.Mathlib.Omega.{arith}
 use lib.Dec.{ltb}
 use lib.ListN.{length, take, drop, length-append, length-drop, List·getD-append}
-use lib.Seq.{length-take-le, take-at, drop-at, drop-length, getD-append-add, getD-take, getD-drop}
+use lib.Seq.{length-take-le, take-at, drop-length, getD-append-add, getD-take}
 use borrow.Author.Tests.{lt-ltb, le-ltb}
-use borrow.Rule.Slice.PartMut.{putMid, postOf, post-is}
+use borrow.Rule.Slice.PartMut.{putMid, post-is}
 use Rattle.ring.specs.Word.{at, comp}
 use Rattle.ring.specs.Sums.{tab}
 use Rattle.ring.specs.Turn.{source, rotated}
+use Rattle.ring.specs.Lists.{part}
 use Rattle.ring.proofs.Tab.{length-tab, at-tab, tab-of}
+use Rattle.ring.proofs.Parts.{part-length, part-at}
 
 -- ---- parts of a slice
-
--- m words from place s on
-pub part-length : (a : List ℕ) (s m : ℕ) → s + m ≤ length a → length (take m (drop s a)) ≡ m
-part-length a s m h = length-take-le m (drop s a) (rw length-drop (omega arith))
-
-pub part-at : (a : List ℕ) (s m i : ℕ) → i < m → at (take m (drop s a)) i ≡ at a (s + i)
-part-at a s m i l = getD-take m (drop s a) i 0 l ∙ getD-drop s a i 0
 
 module _ (o e : List ℕ) (k : ℕ) (is : length e ≡ k) (h : k ≤ length o) where
   -- the slice, k words of which are e, has its length
@@ -34,6 +29,7 @@ module _ (o e : List ℕ) (k : ℕ) (is : length e ≡ k) (h : k ≤ length o) w
 
   -- what is lent next: the words from place k on
   pub back-length : length (take (length (e ++ drop k o) - k) (drop k (e ++ drop k o))) ≡ length o - k
+  unfolding part
   back-length = part-length (e ++ drop k o) k (length (e ++ drop k o) - k) (omega (arith, front-length)) ∙ ap (λ (n : ℕ). n - k) front-length
 
   -- and what the slice holds once they are written
@@ -91,32 +87,34 @@ module _ (a : List ℕ) (k : ℕ) (h : k ≤ length a) where
   first = take (N - k) a
 
   pub last-length : length last ≡ k
+  unfolding part
   last-length = part-length a (N - k) (N - (N - k)) (omega arith) ∙ (let q : N - (N - k) ≡ k = omega arith in q)
 
   pub first-length : length first ≡ N - k
   first-length = length-take-le (N - k) a (omega arith)
 
   last-at : (i : ℕ) → i < k → at last i ≡ at a (N - k + i)
+  unfolding part
   last-at i l = part-at a (N - k) (N - (N - k)) i (omega arith)
 
   first-at : (i : ℕ) → i < N - k → at first i ≡ at a i
   first-at i l = getD-take (N - k) a i 0 l
 
   -- complemented, then copied
-  pub rotated-low : {e1 e2 : List ℕ} → e1 ≡ tab (length last) (λ i. comp (at last i)) → e2 ≡ tab (length first) (λ i. at first i) → e1 ++ e2 ≡ rotated N k a
+  pub rotated-low : {e1 e2 : List ℕ} → e1 ≡ tab (length last) (λ i. comp (at last i)) → e2 ≡ first → e1 ++ e2 ≡ rotated N k a
   unfolding rotated
   rotated-low p q =
-      ap₂ _++_ (p ∙ ap (λ (n : ℕ). tab n (λ i. comp (at last i))) last-length) (q ∙ ap (λ (n : ℕ). tab n (λ i. at first i)) first-length)
+      ap₂ _++_ (p ∙ ap (λ (n : ℕ). tab n (λ i. comp (at last i))) last-length) (q ∙ tab-of first (N - k) (λ i. at first i) first-length (λ i l. refl))
       ∙ tab-join k (N - k) _ _ (word N k a)
       (λ i l. ap comp (last-at i l) ∙ sym (word-turned N k a i (N - k + i) (source-round N k i l (omega arith) ∙ omega arith)))
       (λ i l. first-at i l ∙ sym (word-kept N k a (k + i) i (source-back N k (k + i) (omega arith) (omega arith) ∙ omega arith) (omega arith)))
       ∙ ap (λ (n : ℕ). tab n (word N k a)) (let r : k + (N - k) ≡ N = omega arith in r)
 
   -- copied, then complemented
-  pub rotated-high : {e1 e2 : List ℕ} → e1 ≡ tab (length last) (λ i. at last i) → e2 ≡ tab (length first) (λ i. comp (at first i)) → e1 ++ e2 ≡ rotated N (N + k) a
+  pub rotated-high : {e1 e2 : List ℕ} → e1 ≡ last → e2 ≡ tab (length first) (λ i. comp (at first i)) → e1 ++ e2 ≡ rotated N (N + k) a
   unfolding rotated
   rotated-high p q =
-      ap₂ _++_ (p ∙ ap (λ (n : ℕ). tab n (λ i. at last i)) last-length) (q ∙ ap (λ (n : ℕ). tab n (λ i. comp (at first i))) first-length)
+      ap₂ _++_ (p ∙ tab-of last k (λ i. at last i) last-length (λ i l. refl)) (q ∙ ap (λ (n : ℕ). tab n (λ i. comp (at first i))) first-length)
       ∙ tab-join k (N - k) _ _ (word N (N + k) a)
       (λ i l. last-at i l ∙ sym (word-kept N (N + k) a i (N - k + i) (source-round N (N + k) i (omega arith) (omega arith) ∙ omega arith) (omega arith)))
       (λ i l. ap comp (first-at i l) ∙ sym (word-turned N (N + k) a (k + i) i (source-round N (N + k) (k + i) (omega arith) (omega arith) ∙ omega arith)))

@@ -1,39 +1,26 @@
--- Rotation: what is refused and what is not, by taking the table apart check by check, and the laws that callers use.
+-- Rotation: what is refused and what is not, by the laws of tables, and the laws that callers use.
 -- Assumes nothing.
-use mathlib.Core.Path.{_≡_, sym, ap, _∙_}
+use mathlib.Core.Path.{_≡_, refl, ap, _∙_}
 use mathlib.Core.List.{List}
 use Prim.Native.Nat.{ℕ, _+_, _%_, _≤_, _<_}
-use lib.Dec.{lit<}
-use borrow.Author.Tests.{eq-eqb, le-leb, eqb-true, leb-true}
 use lib.ListN.{length}
 use Rattle.params.specs.declared.Params.{Params}
-use Rattle.params.specs.declared.Sizes.{Sizes}
 use Rattle.params.specs.declared.Answer.{Answer}
 use Rattle.params.specs.Refusal.{answer, ifDone}
 use Rattle.params.specs.Ranges.{paramsNumber}
-use Rattle.params.specs.Sizes.{size, sizesOf, sizesIn}
-use Rattle.params.proofs.Answers.{passed, when-done}
-use Rattle.params.proofs.Ranges.{in-range, size-from, sizes-good, sizes-number}
+use Rattle.params.specs.Sizes.{size}
+use Rattle.params.proofs.Answers.{when-done}
+use Rattle.params.proofs.Ranges.{in-range, size-from}
+use Rattle.refusals.proofs.Table.{good, done}
 use Rattle.ring.specs.Poly.{plus, minus, times}
 use Rattle.ring.specs.Phase.{phase}
 use Rattle.ring.specs.Turn.{rotated, negating, complemented}
-use Rattle.ring.proofs.Tab.{length-tab}
+use Rattle.ring.proofs.Places.{length-rotated}
 use Rattle.ring.proofs.Value.{Reduced, proper-reduced}
 use Rattle.ring.proofs.Turns.{rotated-rotated}
 use Rattle.ring.proofs.Laws.{rotated-proper, phase-rotated}
-use Rattle.rotation.specs.Rotate.{rotateNumber, RotateGood}
-
--- ---- the record of lengths, as a routine gets it
-
-module _ (p : Params) {s : Sizes} (e : s ≡ sizesOf p) where
-  pub in-params : s .number ≡ 0 → paramsNumber p ≡ 0
-  in-params z = sizes-number p (sym (ap (λ (s : Sizes). s .number) e) ∙ z)
-
-  pub out-params : (s .number ≡ 0 → ⊥) → paramsNumber p ≡ 0 → ⊥
-  out-params h z = h (ap (λ (s : Sizes). s .number) (e ∙ sizes-good p z))
-
-  pub lengths-in : s .number ≡ 0 → s ≡ sizesIn p
-  lengths-in z = e ∙ sizes-good p (in-params z)
+use Rattle.rotation.specs.Rotate.{rotateChecks, rotateNumber}
+use Rattle.rotation.specs.Private.{RotateGood}
 
 -- ---- refusals
 
@@ -41,21 +28,13 @@ module _ (p : Params) (la lo k : ℕ) where
   pub rotate-good : rotateNumber p la lo k ≡ 0 → RotateGood p la lo k
   unfolding rotateNumber
   rotate-good e =
-      let s1 = passed _ _ _ (lit< tt) e in
-      let s2 = passed _ _ _ (lit< tt) (s1 .1) in
-      let s3 = passed _ _ _ (lit< tt) (s2 .1) in
-      let s4 = passed _ _ _ (lit< tt) (s3 .1) in
-      record {
-        range = in-range p (eqb-true _ _ (s1 .0));
-        from = eqb-true _ _ (s2 .0);
-        into = eqb-true _ _ (s3 .0);
-        amount = leb-true _ _ (s4 .0);
-      }
+      let f = good p (rotateChecks p la lo k) refl e in
+      record { range = in-range p (f .0); from = f .1 .0; into = f .1 .1 .0; amount = f .1 .1 .1 .0 }
 
   -- good arguments are not refused
   pub rotate-done : paramsNumber p ≡ 0 → la ≡ size p → lo ≡ size p → k ≤ size p + size p → rotateNumber p la lo k ≡ 0
   unfolding rotateNumber
-  rotate-done e a o l = simp (eq-eqb (paramsNumber p) 0 e, eq-eqb la (size p) a, eq-eqb lo (size p) o, le-leb k (size p + size p) l)
+  rotate-done e a o l = done p (rotateChecks p la lo k) (e, (a, (o, (l, tt))))
 
 -- ---- for callers, at good arguments
 
@@ -70,8 +49,7 @@ module _ (p : Params) (a o : List ℕ) (k : ℕ) (e : paramsNumber p ≡ 0) (la 
 
 -- what is written: N words
 pub rotated-length : (p : Params) (k : ℕ) (a : List ℕ) → length (rotated (size p) k a) ≡ size p
-unfolding rotated
-rotated-length p k a = length-tab (size p) _
+rotated-length p = length-rotated (size p)
 
 pub rotated-words : (p : Params) (k : ℕ) (a : List ℕ) → Reduced a → Reduced (rotated (size p) k a)
 rotated-words p k a ra = proper-reduced (size p) (size-from p) (rotated-proper (size p) (size-from p) k a ra)

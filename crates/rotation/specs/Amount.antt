@@ -1,12 +1,10 @@
 -- Rounding a word to a rotation amount, a number of steps of a 2N-th of a turn (01, trgsw, 'Rounding'; TFHE paper, Algorithm 3, line 1).
 use Prim.Native.Nat.{ℕ, _+_, _-_, _/_, _%_, _^_}
 use Rattle.params.specs.declared.Params.{Params}
-use Rattle.params.specs.declared.Answer.{Answer}
 use Rattle.params.specs.Refusal.{answer, ifDone}
 use Rattle.params.specs.Ranges.{paramsNumber}
 use Rattle.params.specs.Sizes.{size}
 use Rattle.ring.specs.Word.{Q}
-use Rattle.utils.specs.declared.Amount.{Amount}
 use Rattle.rotation.specs.declared.Rounded.{Rounded}
 
 -- h = 2^(30-NBIT), half a step.

@@ -26,32 +26,10 @@ fn rotate_number(p: Params, la: usize, lo: usize, k: u32) -> u32
     ensures { λ r. ⌜ r ≡ rotateNumber p la lo k ⌝ }
 {
     let s = params::sizes_of(p);
-    if s.number != 0 {
-        return 1;
-    }
-    if la != s.size {
-        return 2;
-    }
-    if lo != s.size {
-        return 2;
-    }
-    if s.size + s.size < k as usize {
-        return 3;
-    }
-    0
-}
-
-// The words of a, in order.
-fn copy(a: &[u32], out: &mut [u32])
-    requires { ⌜ length (now out) ≡ length (now a) ⌝ }
-    ensures { λ _. ⌜ now (out .exit) ≡ tab (length (now (a .entry))) (λ i. at (now (a .entry)) i) ⌝ }
-{
-    let n = a.len();
-    let mut i = 0;
-    while i < n {
-        out[i] = a[i];
-        i += 1;
-    }
+    let turn = s.size + s.size;
+    let number = refusals::is(s.number, la, s.size, 2);
+    let number = refusals::is(number, lo, s.size, 2);
+    refusals::at_most(number, k as usize, turn, 3)
 }
 
 // A coefficient that ends in the upper half: `Torus::MAX - a[i]`, the complement and not the negative.
@@ -81,7 +59,7 @@ fn rotate_low(a: &[u32], k: usize, out: &mut [u32])
 {
     let m = a.len() - k;
     turn_over(&a[m..], &mut out[..k]);
-    copy(&a[..m], &mut out[k..]);
+    words::copy(&a[..m], &mut out[k..]);
 }
 
 // The amount N + k: the last k words come to the front, copied; the others are complemented behind them.
@@ -90,7 +68,7 @@ fn rotate_high(a: &[u32], k: usize, out: &mut [u32])
     ensures { λ _. ⌜ now (out .exit) ≡ rotated (length (now (a .entry))) (length (now (a .entry)) + k) (now (a .entry)) ⌝ }
 {
     let m = a.len() - k;
-    copy(&a[m..], &mut out[..k]);
+    words::copy(&a[m..], &mut out[..k]);
     turn_over(&a[..m], &mut out[k..]);
 }
 
@@ -119,20 +97,12 @@ pub fn poly_mul_with_x_k(p: Params, a: &[u32], k: Amount, out: &mut [u32]) -> An
     Answer { number, place: 0 }
 }
 
-// 2^s.
-fn two_to(s: u32) -> u32
-    requires { ⌜ s < 32 ⌝ }
-    ensures { λ r. ⌜ r ≡ 2 ^ s ⌝ }
-{
-    1u32 << s
-}
-
 // The amount of a mask: the sum wraps.
 fn mask_steps(p: Params, x: u32) -> u32
     requires { ⌜ InRange p ⌝ }
     ensures { λ r. ⌜ r ≡ maskAmount p x ⌝ }
 {
-    ring::add(x, two_to(30 - p.nbit)) / two_to(31 - p.nbit)
+    ring::add(x, ring::power(30 - p.nbit)) / ring::power(31 - p.nbit)
 }
 
 // b and half a step: in 64 bits, so that the sum does not wrap.
@@ -147,9 +117,9 @@ fn body_steps(p: Params, b: u32) -> u32
     requires { ⌜ InRange p ⌝ }
     ensures { λ r. ⌜ r ≡ bodyAmount p b ⌝ }
 {
-    let half = two_to(30 - p.nbit);
-    let step = two_to(31 - p.nbit) as u64;
-    let turn = two_to(p.nbit + 1) as u64;
+    let half = ring::power(30 - p.nbit);
+    let step = ring::power(31 - p.nbit) as u64;
+    let turn = ring::power(p.nbit + 1) as u64;
     let steps = body_sum(b, half) / step;
     (turn - steps) as u32
 }

@@ -1,40 +1,31 @@
--- Switching's refusals: what is refused and what is not, by taking the table apart check by check, and the laws that callers use.
+-- Switching's refusals: what is refused and what is not, from the table's laws, and the laws that callers use.
 -- Assumes nothing.
-use mathlib.Core.Path.{_≡_, sym, ap, _∙_}
+use mathlib.Core.Path.{_≡_, refl, ap, _∙_}
 use mathlib.Core.List.{List}
-use Prim.Native.Nat.{ℕ, _+_, _*_, _≤_, _<_}
-use lib.Dec.{lit<}
+use Prim.Native.Nat.{ℕ, _+_}
 use lib.ListN.{length}
-use borrow.Author.Tests.{eq-eqb, eqb-true}
 use Rattle.params.specs.declared.Params.{Params}
 use Rattle.params.specs.declared.Answer.{Answer}
 use Rattle.params.specs.Refusal.{answer, ifDone}
 use Rattle.params.specs.Ranges.{paramsNumber}
 use Rattle.params.specs.Sizes.{size, switchingWords}
-use Rattle.params.proofs.Answers.{passed, when-done}
+use Rattle.params.proofs.Answers.{when-done}
 use Rattle.params.proofs.Ranges.{in-range}
+use Rattle.refusals.proofs.Table.{good, done}
+use Rattle.ring.specs.Poly.{minus}
 use Rattle.ring.proofs.Tab.{length-tab}
-use Rattle.switching.specs.Switched.{switchNumber, SwitchGood, switched}
+use Rattle.switching.specs.Switched.{switchChecks, switchNumber, switched}
+use Rattle.switching.specs.Private.{SwitchGood}
 
 module _ (p : Params) (ls lk lo : ℕ) where
   pub switch-good : switchNumber p ls lk lo ≡ 0 → SwitchGood p ls lk lo
   unfolding switchNumber
-  switch-good e =
-      let s1 = passed _ _ _ (lit< tt) e in
-      let s2 = passed _ _ _ (lit< tt) (s1 .1) in
-      let s3 = passed _ _ _ (lit< tt) (s2 .1) in
-      let s4 = passed _ _ _ (lit< tt) (s3 .1) in
-      record {
-        range = in-range p (eqb-true _ _ (s1 .0));
-        from = eqb-true _ _ (s2 .0);
-        rows = eqb-true _ _ (s3 .0);
-        into = eqb-true _ _ (s4 .0);
-      }
+  switch-good e = let f = good p (switchChecks p ls lk lo) refl e in record { range = in-range p (f .0); from = f .1 .0; rows = f .1 .1 .0; into = f .1 .1 .1 .0 }
 
   -- good arguments are not refused
   pub switch-done : paramsNumber p ≡ 0 → ls ≡ size p + 1 → lk ≡ switchingWords p → lo ≡ p .n + 1 → switchNumber p ls lk lo ≡ 0
   unfolding switchNumber
-  switch-done e s k o = simp (eq-eqb (paramsNumber p) 0 e, eq-eqb ls (size p + 1) s, eq-eqb lk (switchingWords p) k, eq-eqb lo (p .n + 1) o)
+  switch-done e s k o = done p (switchChecks p ls lk lo) (e, (s, (k, (o, tt))))
 
 -- ---- for callers, at good arguments
 
@@ -49,5 +40,5 @@ module _ (p : Params) (src key o : List ℕ) (e : paramsNumber p ≡ 0) (ls : le
 
 -- what is written: n + 1 words
 pub switched-length : (p : Params) (key src : List ℕ) → length (switched p key src) ≡ p .n + 1
-unfolding switched
+unfolding switched minus
 switched-length p key src = length-tab (p .n + 1) _

@@ -5,16 +5,19 @@ use mathlib.Core.Path.{_≡_, refl}
 use mathlib.Core.List.{List, [], _∷_}
 use Prim.Native.Nat.{ℕ}
 use Rattle.params.specs.declared.Params.{Params}
-use Rattle.params.specs.Ranges.{paramsNumber, switchingNumber}
+use Rattle.params.specs.Ranges.{paramsNumber}
 use Rattle.params.specs.Published.{numbers, security110}
-use Rattle.ring.specs.Word.{Q, at, neg}
-use Rattle.ring.specs.Sums.{tab, sumTo}
+use Rattle.ring.specs.Word.{Q, neg, fieldOf}
+use Rattle.ring.specs.Sums.{tab}
+use Rattle.ring.specs.Lists.{part}
+use Rattle.ring.specs.Poly.{plus, minus, total}
+use Rattle.ring.specs.Phase.{trivial}
 use Rattle.key.specs.Switching.{rowPart, rowIndex}
-use Rattle.switching.specs.Switched.{switchNumber, rounding, rounded, fieldWeight, switchField, maskField, used, takes, startWord, switched}
+use Rattle.switching.specs.Switched.{switchNumber, rounding, rounded, maskField, usedRow, maskRows, switched}
 
 -- the 8 fields of a mask
 abbrev fields : ℕ → List ℕ
-fields a = tab 8 (switchField security110 (rounded security110 a))
+fields a = tab 8 (maskField security110 (a ∷ []) 0)
 
 -- n 1, N 2, BASEBIT 1, T 1: rows (i, j, k) of 2 words, the idle rows 0 and 2 holding junk
 abbrev two : Params
@@ -32,5 +35,5 @@ pub examples :
     × (switched two key (0 ∷ 0x80000000 ∷ 9 ∷ []) ≡ 0xFFFFFFF9 ∷ 1 ∷ [])
     × (switched two key (0x40000000 ∷ 0x3FFFFFFF ∷ 9 ∷ []) ≡ 0xFFFFFFFB ∷ 3 ∷ [])
     × (switched two key (0xC0000000 ∷ 0 ∷ 9 ∷ []) ≡ 0 ∷ 9 ∷ [])
-unfolding switchField maskField rounded rounding fieldWeight tab sumTo Q neg switchNumber paramsNumber switchingNumber rowPart rowIndex used takes startWord switched
+unfolding fieldOf maskField rounded rounding tab plus minus total trivial Q neg switchNumber paramsNumber part rowPart rowIndex usedRow maskRows switched
 examples = (refl, refl, refl, refl, refl, refl, refl, refl)

@@ -1,45 +1,41 @@
--- What a field takes: nothing where it is 0, else its row.
+-- The row that a field uses, and that a switching depends on no other.
 -- Assumes nothing.
-use mathlib.Core.Path.{_≡_, refl, sym}
-use mathlib.Core.Bool.{Bool, true, false, cond}
-use mathlib.Core.List.{List}
-use Prim.Native.Nat.{ℕ, _<_}
-use lib.Dec.{eqb}
-use lib.ListN.{length}
+use mathlib.Core.Path.{_≡_, ap}
+use mathlib.Core.List.{List, []}
+use Prim.Native.Nat.{ℕ, _+_, _<_}
+use native.Mathlib.Decide.{ℕ-discrete}
 use borrow.Author.Tests.{eq-eqb, ne-eqb}
 use Rattle.params.specs.declared.Params.{Params}
-use Rattle.ring.specs.Word.{Q, Q-pos, at, neg}
-use Rattle.ring.specs.Sums.{tab}
-use Rattle.ring.proofs.Tab.{tab-of}
+use Rattle.params.specs.Sizes.{size}
+use Rattle.ring.specs.Word.{at}
+use Rattle.ring.specs.Poly.{minus}
+use Rattle.ring.specs.Phase.{trivial}
 use Rattle.key.specs.Switching.{rowPart}
-use Rattle.switching.specs.Switched.{used, takes, startWord}
+use Rattle.switching.specs.Switched.{maskField, usedRow, maskRows, switched}
+use Rattle.ring.proofs.Samples.{total-ext}
 
-pub used-none : (k f : ℕ) → k ≡ 0 → used k f ≡ 0
-unfolding used
-used-none k f e = rw (eq-eqb k 0 e)
+module _ (p : Params) (key : List ℕ) (i j k : ℕ) where
+  pub no-row : k ≡ 0 → usedRow p key i j k ≡ []
+  unfolding usedRow
+  no-row e = rw (eq-eqb k 0 e)
 
-pub used-row : (k f : ℕ) → (k ≡ 0 → ⊥) → used k f ≡ f
-unfolding used
-used-row k f h = rw (ne-eqb k 0 h)
+  pub the-row : (k ≡ 0 → ⊥) → usedRow p key i j k ≡ rowPart p key i j k
+  unfolding usedRow
+  the-row h = rw (ne-eqb k 0 h)
 
-module _ (p : Params) (key : List ℕ) (i j k x : ℕ) where
-  pub takes-none : k ≡ 0 → takes p key i j k x ≡ 0
-  unfolding takes
-  takes-none = used-none k _
+-- keys that are alike in the rows used switch alike
+module _ (p : Params) (key key′ src : List ℕ)
+    (h : (i j x : ℕ) → i < size p → j < p .t → x < p .n + 1 → (maskField p src i j ≡ 0 → ⊥)
+    → at (rowPart p key i j (maskField p src i j)) x ≡ at (rowPart p key′ i j (maskField p src i j)) x) where
+  row-alike : (i j x : ℕ) → i < size p → j < p .t → x < p .n + 1 → at (usedRow p key i j (maskField p src i j)) x ≡ at (usedRow p key′ i j (maskField p src i j)) x
+  row-alike i j x hi hj hx = go (ℕ-discrete (maskField p src i j) 0)
+    where
+      go : Dec (maskField p src i j ≡ 0) → at (usedRow p key i j (maskField p src i j)) x ≡ at (usedRow p key′ i j (maskField p src i j)) x
+      go (yes e) = rw (no-row p key i j (maskField p src i j) e, no-row p key′ i j (maskField p src i j) e)
+      go (no d) = rw (the-row p key i j (maskField p src i j) d, the-row p key′ i j (maskField p src i j) d) (h i j x hi hj hx d)
 
-  pub takes-row : (k ≡ 0 → ⊥) → neg (at (rowPart p key i j k) x) ≡ takes p key i j k x
-  unfolding takes
-  takes-row h = sym (used-row k _ h)
-
--- ---- where the loops start
-
-pub start-below : (p : Params) (b x : ℕ) → b < Q → startWord p b x < Q
-unfolding startWord
-start-below p b x h = go (eqb x (p .n))
-  where
-    go : (q : Bool) → cond q b 0 < Q
-    go true = h
-    go false = Q-pos
-
-pub as-tab : (o : List ℕ) → o ≡ tab (length o) (λ x. at o x)
-as-tab o = tab-of o (length o) (λ x. at o x) refl (λ i l. refl)
+  pub used-alike : switched p key src ≡ switched p key′ src
+  unfolding switched maskRows
+  used-alike =
+      ap (minus (p .n + 1) (trivial (p .n) (at src (size p))))
+      (total-ext (p .n + 1) (size p) _ _ (λ i x hi hx. ap (λ (l : List ℕ). at l x) (total-ext (p .n + 1) (p .t) _ _ (λ j y hj hy. row-alike i j y hi hj hy))))

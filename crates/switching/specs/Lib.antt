@@ -1,2 +1,3 @@
 pub mod Switched
 pub mod Drift
+pub mod Private

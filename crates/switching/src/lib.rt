@@ -1,17 +1,14 @@
 // Key switching (src/trgsw.rs: `identity_key_switching`).
 ghost use mathlib.Core.Path.{_≡_};
-ghost use mathlib.Core.Bool.{cond};
-ghost use lib.Dec.{eqb};
-ghost use Prim.Native.Nat.{_+_, _*_, _-_, _^_, _≤_, _<_};
+ghost use Prim.Native.Nat.{_+_, _<_};
 ghost use lib.ListN.{length};
 ghost use Rattle.params.specs.Refusal.{answer, ifDone};
 ghost use Rattle.params.specs.Ranges.{InRange};
 ghost use Rattle.params.specs.Sizes.{size, base, switchingWords};
-ghost use Rattle.ring.specs.Word.{at, neg};
-ghost use Rattle.ring.specs.Sums.{sumTo, tab};
-ghost use Rattle.ring.specs.Loop.{addBy};
-ghost use Rattle.key.specs.Switching.{rowPart};
-ghost use Rattle.switching.specs.Switched.{switchNumber, rounding, fieldWeight, switchField, takes, startWord, switched};
+ghost use Rattle.ring.specs.Word.{fieldOf};
+ghost use Rattle.ring.specs.Poly.{minus, total};
+ghost use Rattle.ring.specs.Phase.{trivial};
+ghost use Rattle.switching.specs.Switched.{switchNumber, usedRow, switched};
 use params::Answer;
 use params::Params;
 
@@ -20,90 +17,45 @@ fn switch_number(p: Params, ls: usize, lk: usize, lo: usize) -> u32
     ensures { λ r. ⌜ r ≡ switchNumber p ls lk lo ⌝ }
 {
     let s = params::sizes_of(p);
-    if s.number != 0 {
-        return 1;
-    }
-    if ls != s.level1 {
-        return 2;
-    }
-    if lk != s.ksk {
-        return 2;
-    }
-    if lo != s.level0 {
-        return 2;
-    }
-    0
-}
-
-// 2^s.
-fn two_to(s: u32) -> u32
-    requires { ⌜ s < 32 ⌝ }
-    ensures { λ r. ⌜ r ≡ 2 ^ s ⌝ }
-{
-    1u32 << s
+    let number = refusals::is(s.number, ls, s.level1, 2);
+    let number = refusals::is(number, lk, s.ksk, 2);
+    refusals::is(number, lo, s.level0, 2)
 }
 
 // Field j of a word: the compiler makes a shift and a mask of the quotient and the remainder.
 fn field(p: Params, x: u32, j: u32) -> u32
     requires { ⌜ InRange p × (j < p .t) ⌝ }
-    ensures { λ r. ⌜ r ≡ switchField p x j ⌝ }
+    ensures { λ r. ⌜ r ≡ fieldOf x (p .basebit) j ⌝ }
 {
-    x / two_to(32 - (j + 1) * p.basebit) % two_to(p.basebit)
+    x / ring::power(32 - (j + 1) * p.basebit) % ring::power(p.basebit)
 }
 
-// b in the last place, 0 in any other.
-fn start_word(last: usize, b: u32, x: usize) -> u32
-    ensures { λ r. ⌜ r ≡ cond (eqb x last) b 0 ⌝ }
-{
-    if x == last {
-        return b;
-    }
-    0
-}
-
-// The words at first: zero, and b in the last place.
+// The trivial sample (0, b).
 fn start(p: Params, b: u32, out: &mut [u32])
     requires { ⌜ length (now out) ≡ p .n + 1 ⌝ }
-    ensures { λ _. ⌜ now (out .exit) ≡ tab (p .n + 1) (startWord p b) ⌝ }
+    ensures { λ _. ⌜ now (out .exit) ≡ trivial (p .n) b ⌝ }
 {
-    let m = out.len();
     let n = p.n as usize;
-    let mut x = 0;
-    while x < m {
-        out[x] = start_word(n, b, x);
-        x += 1;
-    }
-}
-
-// out - row, word by word.
-fn sub_row(row: &[u32], out: &mut [u32])
-    requires { ⌜ length (now row) ≡ length (now out) ⌝ }
-    ensures { λ _. ⌜ now (out .exit) ≡ addBy (now (out .entry)) (λ x. neg (at (now (row .entry)) x)) ⌝ }
-{
-    let m = out.len();
-    let mut x = 0;
-    while x < m {
-        out[x] = ring::sub(out[x], row[x]);
-        x += 1;
-    }
+    words::fill(0, out);
+    out[n] = b;
 }
 
 // out less the row of a field k, which is not looked at where the field is 0.
 fn use_field(p: Params, ksk: &[u32], i: u32, j: u32, k: u32, out: &mut [u32])
     requires { ⌜ InRange p × (i < size p) × (j < p .t) × (k < base p) × (length (now ksk) ≡ switchingWords p) × (length (now out) ≡ p .n + 1) ⌝ }
-    ensures { λ _. ⌜ now (out .exit) ≡ addBy (now (out .entry)) (takes p (now (ksk .entry)) i j k) ⌝ }
+    ensures { λ _. ⌜ now (out .exit) ≡ minus (p .n + 1) (now (out .entry)) (usedRow p (now (ksk .entry)) i j k) ⌝ }
 {
     if k == 0 {
         return;
     }
     let row = key::switching_row(p, ksk, i as usize, j as usize, k as usize);
-    sub_row(row, out);
+    words::subtract(row, out);
 }
 
 // out less the rows of the fields of a mask, its rounding added.
 fn use_mask(p: Params, ksk: &[u32], i: u32, a: u32, out: &mut [u32])
     requires { ⌜ InRange p × (i < size p) × (length (now ksk) ≡ switchingWords p) × (length (now out) ≡ p .n + 1) ⌝ }
-    ensures { λ _. ⌜ now (out .exit) ≡ addBy (now (out .entry)) (λ x. sumTo (p .t) (λ j. takes p (now (ksk .entry)) i j (switchField p a j) x)) ⌝ }
+    ensures { λ _. ⌜ now (out .exit) ≡ minus (p .n + 1) (now (out .entry)) (total (p .n + 1) (p .t) (λ j. usedRow p (now (ksk .entry)) i j (fieldOf a (p .basebit) j))) ⌝ }
 {
     let t = p.t;
     let mut j: u32 = 0;
@@ -120,7 +72,7 @@ fn switch_into(p: Params, src: &[u32], ksk: &[u32], out: &mut [u32])
 {
     let size = src.len() - 1;
     start(p, src[size], out);
-    let rounding = two_to(31 - p.basebit * p.t);
+    let rounding = ring::power(31 - p.basebit * p.t);
     let mut i = 0;
     while i < size {
         let a = ring::add(src[i], rounding);

@@ -4,74 +4,41 @@ use mathlib.Core.Path.{_≡_, refl, sym, ap, _∙_}
 use mathlib.Core.Bool.{Bool, true, false, cond}
 use mathlib.Core.List.{List, [], _∷_, _++_}
 use Prim.Native.Nat.{ℕ, zero, suc, _+_, _≤_, _<_}
-use native.Mathlib.Decide.{ℕ-discrete}
 use native.Mathlib.Numerals.{add-one}
 use native.Mathlib.Omega.{arith}
-use borrow.Author.Tests.{eqb-true, eq-eqb, ne-eqb, le-leb, lt-leb}
+use borrow.Author.Tests.{le-leb, lt-leb}
 use lib.Bits.{bitOr, or-lt, or-add-and, and-le-l, and-le-r}
-use lib.Dec.{eqb, leb, leb→le, nleb→lt, lit<}
+use lib.Dec.{leb, leb→le, nleb→lt, lit<}
 use lib.ListN.{length, take}
 use lib.Seq.{take-suc, take-all}
 use Rattle.ring.specs.Word.{at}
 use Rattle.ring.proofs.Value.{by-test}
 use Rattle.params.specs.declared.Params.{Params}
-use Rattle.params.specs.Refusal.{check, ifDone}
-use Rattle.params.specs.Ranges.{paramsNumber, InRange}
-use Rattle.params.specs.Sizes.{size, sizesOf}
+use Rattle.params.specs.declared.Sizes.{Sizes}
+use Rattle.params.specs.Refusal.{check}
+use Rattle.params.specs.Ranges.{paramsNumber}
+use Rattle.params.specs.Sizes.{sizesOf, sizesIn}
 use Rattle.params.proofs.Answers.{passed}
-use Rattle.params.proofs.Ranges.{in-range, size-to, size-two}
+use Rattle.params.proofs.Lengths.{n-most, size-most}
+use Rattle.refusals.proofs.Table.{good, done}
 use Rattle.tlwe.specs.declared.Level.{Level}
 use Rattle.tlwe.specs.declared.Level.the-variants.{Zero, One}
-use Rattle.tlwe.specs.Level.{dimension, cipherWords, dimensionOf}
-use Rattle.tlwe.specs.Linear.{linearNumber}
+use Rattle.tlwe.specs.Level.{dimension, cipherWords}
+use Rattle.tlwe.specs.Linear.{linearChecks, linearNumber}
+use Rattle.tlwe.specs.Private.{masksOf}
 use Rattle.tlwe.specs.Key.{binary, keyNumber}
 
 -- ---- the masks of a ciphertext
 
-module _ (p : Params) where
-  -- from the record of lengths
-  pub masks-zero : sizesOf p .n ≡ dimensionOf p Zero
-  unfolding sizesOf
-  masks-zero = go (ℕ-discrete (paramsNumber p) 0)
-    where
-      go : Dec (paramsNumber p ≡ 0) → sizesOf p .n ≡ dimensionOf p Zero
-      go (yes e) = rw (eq-eqb (paramsNumber p) 0 e)
-      go (no n) = rw (ne-eqb (paramsNumber p) 0 n)
+-- from the record of lengths
+pub masks-in : (p : Params) (level : Level) → masksOf level (sizesIn p) ≡ dimension p level
+masks-in p Zero = refl
+masks-in p One = refl
 
-  pub masks-one : sizesOf p .size ≡ dimensionOf p One
-  unfolding sizesOf
-  masks-one = go (ℕ-discrete (paramsNumber p) 0)
-    where
-      go : Dec (paramsNumber p ≡ 0) → sizesOf p .size ≡ dimensionOf p One
-      go (yes e) = rw (eq-eqb (paramsNumber p) 0 e)
-      go (no n) = rw (ne-eqb (paramsNumber p) 0 n)
-
--- parameters in range have 1 to 1,100 masks
-pub in-bounds : (p : Params) (level : Level) → paramsNumber p ≡ 0 → (1 ≤ dimension p level) × (dimension p level ≤ 1100)
-in-bounds p Zero e = let r = in-range p e in (r .n-from, r .n-to)
-in-bounds p One e = let r = in-range p e in (omega (arith, size-two p r), omega (arith, size-to p r))
-
--- what the number of masks tells of the parameters
-pub record Masks (p : Params) (level : Level) : Type 0 where
-  pub good : paramsNumber p ≡ 0
-  pub masks : dimensionOf p level ≡ dimension p level
-  pub most : dimension p level ≤ 1100
-
-module _ (p : Params) (level : Level) where
-  pub in-place : paramsNumber p ≡ 0 → dimensionOf p level ≡ dimension p level
-  in-place e = rw (eq-eqb (paramsNumber p) 0 e)
-
-  -- no masks: the parameters are refused
-  pub none : dimensionOf p level ≡ 0 → eqb (paramsNumber p) 0 ≡ false
-  none z = ne-eqb (paramsNumber p) 0 (λ e. let b = in-bounds p level e in let q : ⊥ = omega (arith, in-place e) in q)
-
-  -- some masks: they are not
-  pub some : (dimensionOf p level ≡ 0 → ⊥) → Masks p level
-  some h = go (ℕ-discrete (paramsNumber p) 0)
-    where
-      go : Dec (paramsNumber p ≡ 0) → Masks p level
-      go (yes e) = record { good = e; masks = in-place e; most = in-bounds p level e .1 }
-      go (no n) = absurd (h (rw (ne-eqb (paramsNumber p) 0 n)))
+-- they are few, whatever the parameters are
+pub masks-most : (p : Params) (level : Level) {s : Sizes} → s ≡ sizesOf p → masksOf level s ≤ 1100
+masks-most p Zero e = n-most p e
+masks-most p One e = let h = size-most p e in omega arith
 
 -- ---- operations on ciphertexts
 
@@ -85,17 +52,13 @@ pub record Matching (p : Params) (level : Level) (la lb lo : ℕ) : Type 0 where
 pub linear-good : (p : Params) (level : Level) (la lb lo : ℕ) → linearNumber p level la lb lo ≡ 0 → Matching p level la lb lo
 unfolding linearNumber
 linear-good p level la lb lo e =
-    let s1 = passed _ 1 _ (lit< tt) e in
-    let s2 = passed _ 2 _ (lit< tt) (s1 .1) in
-    let s3 = passed _ 2 _ (lit< tt) (s2 .1) in
-    let s4 = passed _ 2 _ (lit< tt) (s3 .1) in
-    record { good = eqb-true _ _ (s1 .0); first = eqb-true _ _ (s2 .0); second = eqb-true _ _ (s3 .0); result = eqb-true _ _ (s4 .0) }
+    let f = good p (linearChecks (cipherWords p level) la lb lo) refl e in
+    record { good = f .0; first = f .1 .0; second = f .1 .1 .0; result = f .1 .1 .1 .0 }
 
 -- for callers: parameters in range and matching lengths are not refused
 pub linear-done : (p : Params) (level : Level) (la lb lo : ℕ) → Matching p level la lb lo → linearNumber p level la lb lo ≡ 0
 unfolding linearNumber
-linear-done p level la lb lo g =
-    simp (eq-eqb (paramsNumber p) 0 (g .good), eq-eqb la (cipherWords p level) (g .first), eq-eqb lb (cipherWords p level) (g .second), eq-eqb lo (cipherWords p level) (g .result))
+linear-done p level la lb lo g = done p (linearChecks (cipherWords p level) la lb lo) (g .good, (g .first, (g .second, (g .result, tt))))
 
 -- ---- keys
 
@@ -132,9 +95,9 @@ key-more key i seen h e =
     or-binary seen (at key i) ∙ ap (λ (c : Bool). cond (leb (at key i) 1) c false) e
     ∙ rw (add-one, take-suc key i 0 h) (sym (binary-snoc (take i key) (at key i)))
 
--- the loop's end: what was seen gives the number
-pub key-done : (key : List ℕ) (i seen : ℕ) → length key ≤ i → leb seen 1 ≡ binary (take i key) → check (leb seen 1) 4 0 ≡ keyNumber key
-key-done key i seen h e = ap (λ (c : Bool). check c 4 0) (e ∙ ap binary (take-all i key h))
+-- the loop's end: what was seen tells of the whole key
+pub key-done : (key : List ℕ) (i seen : ℕ) → length key ≤ i → leb seen 1 ≡ binary (take i key) → leb seen 1 ≡ binary key
+key-done key i seen h e = e ∙ ap binary (take-all i key h)
 
 -- a key that passes the check is binary
 pub key-good : (key : List ℕ) → keyNumber key ≡ 0 → binary key ≡ true

@@ -5,6 +5,7 @@ use Rattle.ring.proofs.Outcomes.{coincide, Determined, said, said-written}
 use Rattle.tlwe.proofs.decryption.decrypt_bit as decrypt-bit
 use Rattle.tlwe.proofs.decryption.decrypt_message as decrypt-message
 use Rattle.tlwe.proofs.encryption.encrypt as encrypt
+use Rattle.tlwe.proofs.keys.is_binary as is-binary
 use Rattle.tlwe.proofs.keys.key_number as key-number
 use Rattle.tlwe.proofs.keys.phase_of as phase-of
 use Rattle.tlwe.proofs.linear.combine as combine
@@ -24,6 +25,9 @@ decrypt-message-determined κs a x y v w p q = (λ i. record { answer = coincide
 
 pub encrypt-determined : Determined encrypt.ended encrypt.Reads.Learnt
 encrypt-determined κs a x y v w = said-written 6
+
+pub is-binary-determined : Determined is-binary.ended is-binary.Reads.Learnt
+is-binary-determined κs a x y v w = said
 
 pub key-number-determined : Determined key-number.ended key-number.Reads.Learnt
 key-number-determined κs a x y v w = said

@@ -11,22 +11,23 @@ use native.Mathlib.Decide.{ℕ-discrete}
 use native.Mathlib.Omega.{arith}
 use borrow.Author.Tests.{lt-ltb, le-ltb}
 use lib.Dec.{ltb, ltb→lt, nltb→le, lit<}
-use lib.IntN.{ℤ, pos, negsuc, natAbs}
+use lib.IntN.{pos, negsuc, natAbs}
 use lib.ListN.{length, length-append}
-use Rattle.ring.specs.Word.{Q, Q-pos}
+use Rattle.ring.specs.Word.{Q, eighth}
 use Rattle.ring.specs.Centre.{H, centre}
 use Rattle.ring.proofs.Value.{by-test}
 use Rattle.params.specs.declared.Params.{Params}
 use Rattle.tlwe.specs.declared.Level.{Level}
 use Rattle.tlwe.specs.declared.Plain.the-variants.{Bit, Message}
 use Rattle.tlwe.specs.Level.{dimension, cipherWords}
-use Rattle.tlwe.specs.Key.{phaseOf, keyedNumber}
+use Rattle.tlwe.specs.Key.{keyedNumber}
 use Rattle.tlwe.specs.Plain.{modulusNumber, bitWord, messageWord}
 use Rattle.tlwe.specs.Encrypt.{encrypted}
-use Rattle.tlwe.specs.Decrypt.{bitOf, messageOf}
-use Rattle.tlwe.proofs.Refusals.{Encryptable, keyed-rest}
+use Rattle.tlwe.specs.Decrypt.{bitOf, messageOf, messageNumber}
+use Rattle.tlwe.proofs.Refusals.{Encryptable, keyed-done, message-then}
 use Rattle.tlwe.proofs.Messages.{by-modulus, modulus-bounds}
 use Rattle.tlwe.proofs.Phases.{phase-fresh}
+use Rattle.ring.specs.Phase.{phaseOf}
 
 -- ---- inside
 
@@ -50,17 +51,17 @@ word-inside r w o k l h =
 
 -- ---- bits
 
-bit-true : (w : ℕ) → (w < 2 ^ 29) ⊎ (Q < w + 2 ^ 29) → w < Q → (bitWord true + w) % Q < H
+bit-true : (w : ℕ) → (w < eighth) ⊎ (Q < w + eighth) → w < Q → (bitWord true + w) % Q < H
 unfolding H Q
 bit-true w c l = ⊎-elim (λ a. omega arith) (λ a. omega arith) c
 
-bit-false : (w : ℕ) → (w < 2 ^ 29) ⊎ (Q < w + 2 ^ 29) → w < Q → H ≤ (bitWord false + w) % Q
+bit-false : (w : ℕ) → (w < eighth) ⊎ (Q < w + eighth) → w < Q → H ≤ (bitWord false + w) % Q
 unfolding H Q
 bit-false w c l = ⊎-elim (λ a. omega arith) (λ a. omega arith) c
 
-pub bit-back : (b : Bool) (noise : ℕ) → noise < Q → natAbs (centre noise) < 2 ^ 29 → bitOf ((bitWord b + noise) % Q) ≡ b
-bit-back true noise l h = lt-ltb _ H (bit-true noise (inside-cases (2 ^ 29) noise l h) l)
-bit-back false noise l h = le-ltb _ H (bit-false noise (inside-cases (2 ^ 29) noise l h) l)
+pub bit-back : (b : Bool) (noise : ℕ) → noise < Q → natAbs (centre noise) < eighth → bitOf ((bitWord b + noise) % Q) ≡ b
+bit-back true noise l h = lt-ltb _ H (bit-true noise (inside-cases eighth noise l h) l)
+bit-back false noise l h = le-ltb _ H (bit-false noise (inside-cases eighth noise l h) l)
 
 -- ---- messages
 
@@ -142,19 +143,19 @@ module _ (p : Params) (level : Level) (masks key : List ℕ) (lo noise : ℕ) (s
   fresh-length word e = length-append masks _ ∙ ap (λ (n : ℕ). n + 1) e
 
   -- an encryption of a bit that was not refused decrypts to the bit, if the noise is inside 2^29
-  pub decrypts-bit : (b : Bool) → Encryptable p level (Bit b) (length masks) key lo → natAbs (centre noise) < 2 ^ 29
-      → (keyedNumber p level (length (encrypted (dimension p level) (bitWord b) masks noise key)) key 0 ≡ 0)
+  pub decrypts-bit : (b : Bool) → Encryptable p level (Bit b) (length masks) key lo → natAbs (centre noise) < eighth
+      → (keyedNumber p level (length (encrypted (dimension p level) (bitWord b) masks noise key)) key ≡ 0)
       × (bitOf (phaseOf (dimension p level) key (encrypted (dimension p level) (bitWord b) masks noise key)) ≡ b)
   decrypts-bit b g h = (
-    keyed-rest p level _ key 0 (g .good) (fresh-length (bitWord b) (g .masks)) (g .keys) (g .bits),
+    keyed-done p level _ key (g .good) (fresh-length (bitWord b) (g .masks)) (g .keys) (g .bits),
     ap bitOf (phase-fresh (dimension p level) (bitWord b) masks noise key (g .masks)) ∙ bit-back b noise small h,
   )
 
   -- an encryption of a message that was not refused decrypts to the message modulo M, if the noise is inside 2^31/(2M)
   pub decrypts-message : (v m : ℕ) → Encryptable p level (Message v m) (length masks) key lo → natAbs (centre noise) < H / (2 * m)
-      → (keyedNumber p level (length (encrypted (dimension p level) (messageWord v m) masks noise key)) key (modulusNumber m) ≡ 0)
+      → (messageNumber p level m (length (encrypted (dimension p level) (messageWord v m) masks noise key)) key ≡ 0)
       × (messageOf m (phaseOf (dimension p level) key (encrypted (dimension p level) (messageWord v m) masks noise key)) ≡ v % m)
   decrypts-message v m g h = (
-    keyed-rest p level _ key (modulusNumber m) (g .good) (fresh-length (messageWord v m) (g .masks)) (g .keys) (g .bits) ∙ g .message,
+    message-then p level _ key m (keyed-done p level _ key (g .good) (fresh-length (messageWord v m) (g .masks)) (g .keys) (g .bits)) ∙ g .message,
     ap (messageOf m) (phase-fresh (dimension p level) (messageWord v m) masks noise key (g .masks)) ∙ message-back v m noise (g .message) small h,
   )

@@ -6,16 +6,15 @@ use mathlib.Core.List.{List, [], _∷_, _++_}
 use Prim.Native.Nat.{ℕ, zero, suc, _+_, _-_, _*_, _/_, _%_, _^_, _≤_, _<_}
 use native.Mathlib.Nat.{add-mod, mod-add-mod, mod-lt}
 use native.Mathlib.Omega.{arith}
-use lib.ListN.{length, drop, set, List·getD-append, drop-of-length-le}
-use lib.Seq.{drop-cons, set-at, getD-at}
+use lib.ListN.{length, drop, set, drop-of-length-le}
+use lib.Seq.{drop-cons, set-at}
 use Rattle.ring.specs.Word.{Q, Q-pos, at, neg}
-use Rattle.ring.specs.Sums.{sumTo}
 use Rattle.ring.specs.Poly.{plus, minus, scale}
-use Rattle.ring.specs.Phase.{inner, samplePhase}
-use Rattle.ring.proofs.Tab.{at-tab}
-use Rattle.ring.proofs.SumLaws.{sum-ext, sum-mod, sum-add, sum-mul}
+use Rattle.ring.specs.Phase.{inner, phaseOf}
+use Rattle.ring.proofs.Places.{at-combined}
+use Rattle.ring.proofs.Extract.{phase-row}
+use Rattle.ring.proofs.SumLaws.{sum-mod, sum-add, sum-mul}
 use Rattle.ring.proofs.Words.{mul-mod-l, mul-mod-r, neg-mod}
-use Rattle.tlwe.specs.Key.{phaseOf}
 use Rattle.tlwe.specs.Linear.{negative}
 use Rattle.tlwe.specs.Encrypt.{encrypted}
 use Rattle.tlwe.proofs.Sums.{add-combined, sub-combined, neg-combined, add-mul-combined, sub-mul-combined, less-times}
@@ -42,11 +41,6 @@ fresh-written masks key word noise {sum} lk es =
     let i : sum ≡ inner (length masks) key masks % 2 ^ 32 = es ∙ ap (λ (k : ℕ). inner k key masks % 2 ^ 32) lk in
     ap (λ (x : ℕ). masks ++ (x ∷ [])) (let v : (sum + word + noise) % 2 ^ 32 ≡ (inner (length masks) key masks + word + noise) % 2 ^ 32 = omega arith in v)
 
--- the masks' sum does not see b
-inner-front : (d : ℕ) (key masks : List ℕ) (b : ℕ) → length masks ≡ d → inner d key (masks ++ (b ∷ [])) ≡ inner d key masks
-unfolding inner
-inner-front d key masks b e = sum-ext d _ _ (λ i l. ap (λ (x : ℕ). x * at key i) (List·getD-append masks (b ∷ []) 0 i (let h : i < length masks = omega arith in h)))
-
 -- the masks' sum goes out again
 fresh-cancel : (i w n : ℕ) → ((i + w + n) % Q + neg i) % Q ≡ (w + n) % Q
 unfolding neg Q
@@ -55,22 +49,10 @@ fresh-cancel i w n = omega arith
 -- the phase of a fresh ciphertext is the plain word plus the noise
 pub phase-fresh : (d word : ℕ) (masks : List ℕ) (noise : ℕ) (key : List ℕ) → length masks ≡ d
     → phaseOf d key (encrypted d word masks noise key) ≡ (word + noise) % Q
-unfolding samplePhase encrypted
-phase-fresh d word masks noise key e =
-    ap₂ (λ (x y : ℕ). (x + neg y) % Q) (getD-at masks ((inner d key masks + word + noise) % Q) [] 0 d e)
-    (inner-front d key masks ((inner d key masks + word + noise) % Q) e)
-    ∙ fresh-cancel (inner d key masks) word noise
+unfolding encrypted
+phase-fresh d word masks noise key e = phase-row d key masks ((inner d key masks + word + noise) % Q) e ∙ fresh-cancel (inner d key masks) word noise
 
 -- ---- sums and multiples
-
--- a word of x · a + y · b
-word-at : (m x : ℕ) (a : List ℕ) (y : ℕ) (b : List ℕ) (i : ℕ) → i < m → at (plus m (scale m x a) (scale m y b)) i ≡ (x * at a i + y * at b i) % Q
-unfolding plus scale Q
-word-at m x a y b i l =
-    let u = at-tab m (λ j. x * at a j % Q) i l in
-    let v = at-tab m (λ j. y * at b j % Q) i l in
-    let w = at-tab m (λ j. (at (scale m x a) j + at (scale m y b) j) % Q) i l in
-    omega arith
 
 module _ (d : ℕ) (key : List ℕ) (x : ℕ) (a : List ℕ) (y : ℕ) (b : List ℕ) where
   -- its masks' sum
@@ -78,7 +60,7 @@ module _ (d : ℕ) (key : List ℕ) (x : ℕ) (a : List ℕ) (y : ℕ) (b : List
   unfolding inner
   inner-combined =
       sum-mod d _ (λ i. at a i * at key i * x + at b i * at key i * y) (λ i l.
-      ap (λ (t : ℕ). (t * at key i) % Q) (word-at (d + 1) x a y b i (omega arith)) ∙ mul-mod-l (x * at a i + y * at b i) (at key i)
+      ap (λ (t : ℕ). (t * at key i) % Q) (at-combined (d + 1) x a y b i (omega arith)) ∙ mul-mod-l (x * at a i + y * at b i) (at key i)
       ∙ ap (λ (t : ℕ). t % Q) (let e : (x * at a i + y * at b i) * at key i ≡ at a i * at key i * x + at b i * at key i * y = omega arith in e))
       ∙ ap (λ (t : ℕ). t % Q) (sum-add d (λ i. at a i * at key i * x) (λ i. at b i * at key i * y)
       ∙ ap₂ (λ (s t : ℕ). s + t) (sum-mul d x (λ i. at a i * at key i)) (sum-mul d y (λ i. at b i * at key i)))
@@ -114,9 +96,9 @@ differences u v i j s p q es ep eq = gather u v (neg i) (neg j) (neg s) p q (neg
 -- the phase of x · a + y · b is x times the one phase plus y times the other
 pub phase-combine : (d : ℕ) (key : List ℕ) (x : ℕ) (a : List ℕ) (y : ℕ) (b : List ℕ)
     → phaseOf d key (plus (d + 1) (scale (d + 1) x a) (scale (d + 1) y b)) ≡ (x * phaseOf d key a + y * phaseOf d key b) % Q
-unfolding samplePhase
+unfolding phaseOf
 phase-combine d key x a y b =
-    ap (λ (t : ℕ). (t + neg (inner d key (plus (d + 1) (scale (d + 1) x a) (scale (d + 1) y b)))) % Q) (word-at (d + 1) x a y b d (omega arith))
+    ap (λ (t : ℕ). (t + neg (inner d key (plus (d + 1) (scale (d + 1) x a) (scale (d + 1) y b)))) % Q) (at-combined (d + 1) x a y b d (omega arith))
     ∙ differences (x * at a d) (y * at b d) (inner d key a * x) (inner d key b * y) _ _ _ (inner-combined d key x a y b)
     (times-less x (at a d) (inner d key a)) (times-less y (at b d) (inner d key b))
 

@@ -1,35 +1,30 @@
 -- Encryption (01, tlwe): b = the masks' sum under the key + plain word + lent noise word.
 use mathlib.Core.List.{List, [], _∷_, _++_}
 use Prim.Native.Nat.{ℕ, _+_, _%_}
-use lib.Dec.{eqb}
 use lib.ListN.{length}
 use Rattle.ring.specs.Word.{Q}
 use Rattle.ring.specs.Phase.{inner}
 use Rattle.params.specs.declared.Params.{Params}
-use Rattle.params.specs.Refusal.{check, ifDone}
-use Rattle.params.specs.Ranges.{paramsNumber}
+use Rattle.params.specs.Refusal.{ifDone}
+use Rattle.refusals.specs.Table.{Check, is, holds, refusalBy}
 use Rattle.tlwe.specs.declared.Level.{Level}
 use Rattle.tlwe.specs.declared.Plain.{Plain}
 use Rattle.tlwe.specs.Level.{dimension, cipherWords}
 use Rattle.tlwe.specs.Key.{binary}
-use Rattle.tlwe.specs.Plain.{plainNumber, plainWord}
-
--- Refusals 1 and 2 of an encryption with lm masks and a key of lk words into lo words, before the rest.
-unfoldable pub encryptLengths : Params → Level → ℕ → ℕ → ℕ → ℕ → ℕ
-encryptLengths p level lm lk lo rest =
-    check (eqb (paramsNumber p) 0) 1
-    (check (eqb lm (dimension p level)) 2
-    (check (eqb lk (dimension p level)) 2
-    (check (eqb lo (cipherWords p level)) 2
-    rest)))
-
--- Refusals 4 and 5: the key's words, then the message modulus.
-abbrev pub plainKeyNumber : Plain → List ℕ → ℕ
-plainKeyNumber plain key = check (binary key) 4 (plainNumber plain)
+use Rattle.tlwe.specs.Plain.{isPlain, plainWord}
 
 -- Refusals 1, 2, 4 and 5 of an encryption with lm masks into lo words.
+abbrev pub encryptChecks : Params → Level → Plain → ℕ → List ℕ → ℕ → List Check
+encryptChecks p level plain lm key lo =
+    is lm (dimension p level) 2
+    ∷ is (length key) (dimension p level) 2
+    ∷ is lo (cipherWords p level) 2
+    ∷ holds (binary key) 4
+    ∷ holds (isPlain plain) 5
+    ∷ []
+
 unfoldable pub encryptNumber : Params → Level → Plain → ℕ → List ℕ → ℕ → ℕ
-encryptNumber p level plain lm key lo = encryptLengths p level lm (length key) lo (plainKeyNumber plain key)
+encryptNumber p level plain lm key lo = refusalBy p (encryptChecks p level plain lm key lo)
 
 -- The ciphertext of a plain word with d masks: the masks, then b = their sum under the key + plain word + noise.
 unfoldable pub encrypted : ℕ → ℕ → List ℕ → ℕ → List ℕ → List ℕ

@@ -1,8 +1,6 @@
 -- The two levels of ciphertexts (01, tlwe: n + 1 words at level 0, N + 1 at level 1; the last is b).
 use Prim.Native.Nat.{ℕ, _+_}
 use Rattle.params.specs.declared.Params.{Params}
-use Rattle.params.specs.Refusal.{ifDone}
-use Rattle.params.specs.Ranges.{paramsNumber}
 use Rattle.params.specs.Sizes.{size}
 use Rattle.tlwe.specs.declared.Level.{Level}
 use Rattle.tlwe.specs.declared.Level.the-variants.{Zero, One}
@@ -15,7 +13,3 @@ dimension p One = size p
 -- The words of a ciphertext: its masks and b.
 abbrev pub cipherWords : Params → Level → ℕ
 cipherWords p level = dimension p level + 1
-
--- The masks, and 0 where the parameters are refused; never 0 where they are not.
-abbrev pub dimensionOf : Params → Level → ℕ
-dimensionOf p level = ifDone (paramsNumber p) (dimension p level) 0

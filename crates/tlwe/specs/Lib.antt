@@ -4,3 +4,4 @@ pub mod Key
 pub mod Plain
 pub mod Encrypt
 pub mod Decrypt
+pub mod Private

@@ -1,8 +1,8 @@
 -- What is encrypted (01, tlwe): each plaintext's word, a count of 2^-32 of a turn, and its refusal.
 use mathlib.Core.Bool.{Bool, true, false, cond}
-use Prim.Native.Nat.{ℕ, _-_, _*_, _/_, _%_, _^_}
+use Prim.Native.Nat.{ℕ, _-_, _*_, _/_, _%_}
 use lib.Dec.{eqb}
-use Rattle.ring.specs.Word.{Q}
+use Rattle.ring.specs.Word.{Q, eighth}
 use Rattle.ring.specs.Centre.{H}
 use Rattle.params.specs.Refusal.{check}
 use Rattle.utils.specs.Torus.{word}
@@ -17,16 +17,16 @@ isModulus m = cond (eqb m 2) true (cond (eqb m 4) true (cond (eqb m 8) true (con
 abbrev pub modulusNumber : ℕ → ℕ
 modulusNumber m = check (isModulus m) 5 0
 
--- The refusal of a plaintext: only a message can have one.
-abbrev pub plainNumber : Plain → ℕ
-plainNumber (Bit b) = 0
-plainNumber (Turn d) = 0
-plainNumber (Message v m) = modulusNumber m
+-- Is the plaintext taken? Only a message can be refused, for its modulus.
+abbrev pub isPlain : Plain → Bool
+isPlain (Bit b) = true
+isPlain (Turn d) = true
+isPlain (Message v m) = isModulus m
 
 -- A bit is ±0.125 of a turn.
 abbrev pub bitWord : Bool → ℕ
-bitWord true = 2 ^ 29
-bitWord false = Q - 2 ^ 29
+bitWord true = eighth
+bitWord false = Q - eighth
 
 -- Message v, modulus m: (v mod m)·2^31/m. H is 2^31.
 abbrev pub messageWord : ℕ → ℕ → ℕ

@@ -4,7 +4,7 @@ ghost use lib.ListN.{length};
 ghost use Rattle.params.specs.Refusal.{answer};
 ghost use Rattle.tlwe.specs.Key.{keyedNumber};
 ghost use Rattle.tlwe.specs.Plain.{modulusNumber};
-ghost use Rattle.tlwe.specs.Decrypt.{messageOf, bitValue, messageValue};
+ghost use Rattle.tlwe.specs.Decrypt.{messageOf, bitValue, messageNumber, messageValue};
 use super::DecryptedBit;
 use super::DecryptedMessage;
 use super::Level;
@@ -15,7 +15,7 @@ use params::Params;
 
 // True when the phase, read as signed, is 0 or more.
 pub fn decrypt_bit(p: Params, level: Level, c: &[u32], key: &[u32]) -> DecryptedBit
-    ensures said { λ r. ⌜ r .answer ≡ answer (keyedNumber p level (length (now (c .entry))) (now (key .entry)) 0) ⌝ }
+    ensures said { λ r. ⌜ r .answer ≡ answer (keyedNumber p level (length (now (c .entry))) (now (key .entry))) ⌝ }
     ensures value { λ r. ⌜ r .value ≡ bitValue p level (now (c .entry)) (now (key .entry)) ⌝ }
 {
     let found = phase_of(p, level, c, key);
@@ -50,7 +50,7 @@ pub fn decrypt_message(
     c: &[u32],
     key: &[u32],
 ) -> DecryptedMessage
-    ensures said { λ r. ⌜ r .answer ≡ answer (keyedNumber p level (length (now (c .entry))) (now (key .entry)) (modulusNumber modulus)) ⌝ }
+    ensures said { λ r. ⌜ r .answer ≡ answer (messageNumber p level modulus (length (now (c .entry))) (now (key .entry))) ⌝ }
     ensures value { λ r. ⌜ r .value ≡ messageValue p level modulus (now (c .entry)) (now (key .entry)) ⌝ }
 {
     let found = phase_of(p, level, c, key);

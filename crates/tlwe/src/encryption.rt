@@ -1,12 +1,15 @@
 // Encryption at both levels with lent masks and one lent noise word: `encrypt_f64`, `encrypt_bool` and `encrypt_lwe_message` of src/tlwe.rs.
 ghost use mathlib.Core.Path.{_≡_};
 ghost use mathlib.Core.List.{[], _∷_, _++_};
-ghost use Prim.Native.Nat.{_+_, _%_, _≤_};
-ghost use lib.ListN.{length, drop};
+ghost use Prim.Native.Nat.{_+_, _%_};
+ghost use lib.ListN.{length};
 ghost use Rattle.ring.specs.Word.{Q};
 ghost use Rattle.params.specs.Refusal.{answer, ifDone};
-ghost use Rattle.tlwe.specs.Plain.{plainNumber, plainWord};
-ghost use Rattle.tlwe.specs.Encrypt.{encryptLengths, plainKeyNumber, encryptNumber, encrypted, encryptOut};
+ghost use Rattle.refusals.specs.Table.{refusalBy};
+ghost use Rattle.tlwe.specs.Level.{dimension};
+ghost use Rattle.tlwe.specs.Plain.{plainWord};
+ghost use Rattle.tlwe.specs.Encrypt.{encryptNumber, encrypted, encryptOut};
+ghost use Rattle.tlwe.specs.Private.{encryptLengths, plainNumber, plainKeyNumber};
 use super::Level;
 use super::Plain;
 use super::keys::inner;
@@ -18,34 +21,14 @@ use utils::Torus;
 
 // 1, 2 or 0, for m masks, a key of k words and a result of o words.
 fn encrypt_lengths(p: Params, level: Level, m: usize, k: usize, o: usize) -> u32
-    ensures { λ r. ⌜ r ≡ encryptLengths p level m k o 0 ⌝ }
+    ensures { λ r. ⌜ r ≡ refusalBy p (encryptLengths (dimension p level) m k o) ⌝ }
 {
-    let d = super::dimension_of(p, level);
-    if d == 0 {
-        return 1;
-    }
-    if m != d {
-        return 2;
-    }
-    if k != d {
-        return 2;
-    }
-    if o != d + 1 {
-        return 2;
-    }
-    0
-}
-
-// The masks, at the front of out.
-fn copy_masks(masks: &[u32], out: &mut [u32])
-    requires { ⌜ length (now masks) ≤ length (now out) ⌝ }
-    ensures { λ _. ⌜ now (out .exit) ≡ now (masks .entry) ++ drop (length (now (masks .entry))) (now (out .entry)) ⌝ }
-{
-    let mut i = 0;
-    while i < masks.len() {
-        out[i] = masks[i];
-        i += 1;
-    }
+    let s = params::sizes_of(p);
+    let d = super::masks_of(s, level);
+    let words = d + 1;
+    let number = refusals::is(s.number, m, d, 2);
+    let number = refusals::is(number, k, d, 2);
+    refusals::is(number, o, words, 2)
 }
 
 // The masks and b = sum + the plain word + the noise.
@@ -56,7 +39,7 @@ fn fill(plain: Plain, masks: &[u32], sum: u32, noise: Torus, out: &mut [u32])
     let word = plain_word(plain);
     let b = ring::add(ring::add(sum, word.0), noise.0);
     let last = masks.len();
-    copy_masks(masks, out);
+    words::copy(masks, out);
     out[last] = b;
 }
 

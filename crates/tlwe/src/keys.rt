@@ -1,12 +1,14 @@
 // Secret keys, as slices of words that are 0 or 1, and the phase of a ciphertext under a key.
 ghost use mathlib.Core.Path.{_≡_};
 ghost use Prim.Native.Nat.{_+_, _%_, _≤_, _<_};
-ghost use lib.Dec.{leb};
 ghost use lib.ListN.{length};
 ghost use Rattle.ring.specs.Word.{Q};
-ghost use Rattle.ring.specs.Phase.{inner};
-ghost use Rattle.params.specs.Refusal.{check, answer};
-ghost use Rattle.tlwe.specs.Key.{keyNumber, keyedLengths, keyedNumber, phaseOf, phaseValue};
+ghost use Rattle.ring.specs.Phase.{inner, phaseOf};
+ghost use Rattle.params.specs.Refusal.{answer};
+ghost use Rattle.refusals.specs.Table.{refusalBy};
+ghost use Rattle.tlwe.specs.Key.{binary, keyNumber, keyedNumber, phaseValue};
+ghost use Rattle.tlwe.specs.Level.{dimension};
+ghost use Rattle.tlwe.specs.Private.{keyedLengths};
 use super::Level;
 use super::Phase;
 use params::Answer;
@@ -19,16 +21,10 @@ pub(crate) struct Keyed {
     pub number: u32,
 }
 
-// 4 where words or-ed together exceed 1, as they do where one of them does, else 0.
-fn seen_number(seen: u32) -> u32
-    ensures { λ r. ⌜ r ≡ check (leb seen 1) 4 0 ⌝ }
-{
-    if 1 < seen { 4 } else { 0 }
-}
-
-// 4 where a key word is neither 0 nor 1, else 0. The loop goes through all words: without a way out it takes several at a time.
-pub fn key_number(key: &[u32]) -> u32
-    ensures { λ r. ⌜ r ≡ keyNumber (now (key .entry)) ⌝ }
+// Are all key words 0 or 1? Words or-ed together exceed 1 where one of them does. The loop goes through all of them: without a way out it takes several at
+// a time.
+pub fn is_binary(key: &[u32]) -> bool
+    ensures { λ r. ⌜ r ≡ binary (now (key .entry)) ⌝ }
 {
     let mut seen: u32 = 0;
     let mut i = 0;
@@ -36,7 +32,14 @@ pub fn key_number(key: &[u32]) -> u32
         seen = seen | key[i];
         i += 1;
     }
-    seen_number(seen)
+    seen <= 1
+}
+
+// 4 where a key word is neither 0 nor 1, else 0.
+pub fn key_number(key: &[u32]) -> u32
+    ensures { λ r. ⌜ r ≡ keyNumber (now (key .entry)) ⌝ }
+{
+    refusals::also(0, is_binary(key), 4)
 }
 
 // The masks' sum under the key, modulo 2^32, of the first words of a, one for each word of the key; in the same loop the key's check.
@@ -53,25 +56,19 @@ pub(crate) fn inner(a: &[u32], key: &[u32]) -> Keyed
         seen = seen | key[i];
         i += 1;
     }
-    let number = seen_number(seen);
+    let number = refusals::also(0, seen <= 1, 4);
     Keyed { word: sum, number }
 }
 
 // 1, 2 or 0, for a ciphertext of c words and a key of k words.
 fn keyed_lengths(p: Params, level: Level, c: usize, k: usize) -> u32
-    ensures { λ r. ⌜ r ≡ keyedLengths p level c k 0 ⌝ }
+    ensures { λ r. ⌜ r ≡ refusalBy p (keyedLengths (dimension p level) c k) ⌝ }
 {
-    let d = super::dimension_of(p, level);
-    if d == 0 {
-        return 1;
-    }
-    if c != d + 1 {
-        return 2;
-    }
-    if k != d {
-        return 2;
-    }
-    0
+    let s = params::sizes_of(p);
+    let d = super::masks_of(s, level);
+    let words = d + 1;
+    let number = refusals::is(s.number, c, words, 2);
+    refusals::is(number, k, d, 2)
 }
 
 // The phase of a ciphertext whose length fits the key's.
@@ -91,7 +88,7 @@ fn phase_in(c: &[u32], key: &[u32]) -> Keyed
 
 // The phase of a ciphertext: b less the masks' sum under the key.
 pub fn phase_of(p: Params, level: Level, c: &[u32], key: &[u32]) -> Phase
-    ensures said { λ r. ⌜ r .answer ≡ answer (keyedNumber p level (length (now (c .entry))) (now (key .entry)) 0) ⌝ }
+    ensures said { λ r. ⌜ r .answer ≡ answer (keyedNumber p level (length (now (c .entry))) (now (key .entry))) ⌝ }
     ensures value { λ r. ⌜ r .value .0 ≡ phaseValue p level (now (c .entry)) (now (key .entry)) ⌝ }
 {
     let number = keyed_lengths(p, level, c.len(), key.len());

@@ -1,8 +1,8 @@
 // Ciphertexts of single words (src/tlwe.rs): n + 1 words at level 0, N + 1 at level 1, the last of them b. Masks and noise are lent (01, tlwe).
 ghost use mathlib.Core.Path.{_≡_};
-ghost use Rattle.tlwe.specs.Level.{dimensionOf};
+ghost use Rattle.tlwe.specs.Private.{masksOf};
 use params::Answer;
-use params::Params;
+use params::Sizes;
 
 pub mod decryption;
 pub mod encryption;
@@ -42,11 +42,10 @@ pub struct DecryptedMessage {
     pub value: u64,
 }
 
-// The masks of a ciphertext, also the words of its key; 0 where the parameters are refused.
-pub(crate) fn dimension_of(p: Params, level: Level) -> usize
-    ensures { λ r. ⌜ r ≡ dimensionOf p level ⌝ }
+// The masks of a ciphertext, also the words of its key, out of the lengths.
+pub(crate) fn masks_of(s: Sizes, level: Level) -> usize
+    ensures { λ r. ⌜ r ≡ masksOf level s ⌝ }
 {
-    let s = params::sizes_of(p);
     match level {
         Level::Zero => s.n,
         Level::One => s.size,

@@ -17,20 +17,11 @@ use params::Params;
 fn linear_number(p: Params, level: Level, la: usize, lb: usize, lo: usize) -> u32
     ensures { λ r. ⌜ r ≡ linearNumber p level la lb lo ⌝ }
 {
-    let masks = super::dimension_of(p, level);
-    if masks == 0 {
-        return 1;
-    }
-    if la != masks + 1 {
-        return 2;
-    }
-    if lb != masks + 1 {
-        return 2;
-    }
-    if lo != masks + 1 {
-        return 2;
-    }
-    0
+    let s = params::sizes_of(p);
+    let words = super::masks_of(s, level) + 1;
+    let number = refusals::is(s.number, la, words, 2);
+    let number = refusals::is(number, lb, words, 2);
+    refusals::is(number, lo, words, 2)
 }
 
 // x · u + y · v, modulo 2^32.

@@ -1,6 +1,7 @@
 // The word that each plaintext stands for, and which plaintexts are refused.
 ghost use mathlib.Core.Path.{_≡_};
-ghost use Rattle.tlwe.specs.Plain.{modulusNumber, plainNumber, bitWord, messageWord, plainWord};
+ghost use Rattle.tlwe.specs.Plain.{modulusNumber, bitWord, messageWord, plainWord};
+ghost use Rattle.tlwe.specs.Private.{plainNumber};
 use super::Plain;
 use utils::Torus;
 

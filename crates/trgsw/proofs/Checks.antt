@@ -1,19 +1,16 @@
 -- The refusals taken apart and put together, and the rows: each lies in its bit's part of the key.
 -- Assumes nothing.
-use mathlib.Core.Path.{_≡_, sym, ap, ap₂, _∙_}
+use mathlib.Core.Path.{_≡_, refl, sym, ap, ap₂, _∙_}
 use mathlib.Core.List.{List}
 use Prim.Native.Nat.{ℕ, _+_, _-_, _*_, _≤_, _<_}
 use native.Mathlib.Nat.{add-sub-cancel-left, mul-le-mul-right}
 use native.Mathlib.Omega.{arith}
-use borrow.Author.Tests.{eq-eqb, eqb-true}
-use lib.Dec.{lit<}
-use lib.ListN.{length, take, drop, replicate}
-use lib.Seq.{length-take-le}
+use lib.ListN.{length, take, drop}
 use Rattle.params.specs.declared.Params.{Params}
 use Rattle.params.specs.Ranges.{paramsNumber}
 use Rattle.params.specs.Sizes.{size, bitWords}
 use Rattle.params.specs.Refusal.{ifDone}
-use Rattle.params.proofs.Answers.{passed, kept, when-done}
+use Rattle.params.proofs.Answers.{kept, when-done}
 use Rattle.params.proofs.Ranges.{in-range}
 use Rattle.ring.specs.Poly.{plus, times}
 use Rattle.product.specs.Product.{polyMulAddOut}
@@ -21,7 +18,8 @@ use Rattle.product.proofs.Uses.{poly-mul-add-done}
 use Rattle.decomposition.specs.Pair.{pairDigit, polynomialOut}
 use Rattle.decomposition.proofs.Checks.{polynomial-done}
 use Rattle.trgsw.specs.External.{rowA, rowB}
-use Rattle.trgsw.specs.Refusals.{externalNumber, cmuxNumber}
+use Rattle.refusals.proofs.Table.{good, done}
+use Rattle.trgsw.specs.Refusals.{externalChecks, externalNumber, cmuxChecks, cmuxNumber}
 use Rattle.ring.specs.Pair.{Pair}
 use Rattle.ring.specs.Lists.{part}
 
@@ -69,10 +67,6 @@ module _ (n : ℕ) (new old : Pair) where
   pub pair-kept : (n ≡ 0 → ⊥) → (old .a ≡ ifDone n new old .a) × (old .b ≡ ifDone n new old .b)
   pair-kept h = (ap (λ (w : Pair). w .a) (kept n new old h), ap (λ (w : Pair). w .b) (kept n new old h))
 
--- the scratch array's first words
-pub scratch : (n : ℕ) → n ≤ 1024 → length {A = ℕ} (take n (replicate 1024 0)) ≡ n
-scratch n h = length-take-le n (replicate 1024 0) h
-
 -- ---- what holds of a call that is not refused
 
 pub record ExternalGood (p : Params) (lr la lb lx ly : ℕ) : Type 0 where
@@ -87,26 +81,13 @@ module _ (p : Params) (lr la lb lx ly : ℕ) where
   pub external-good : externalNumber p lr la lb lx ly ≡ 0 → ExternalGood p lr la lb lx ly
   unfolding externalNumber
   external-good e =
-      let s1 = passed _ _ _ (lit< tt) e in
-      let s2 = passed _ _ _ (lit< tt) (s1 .1) in
-      let s3 = passed _ _ _ (lit< tt) (s2 .1) in
-      let s4 = passed _ _ _ (lit< tt) (s3 .1) in
-      let s5 = passed _ _ _ (lit< tt) (s4 .1) in
-      let s6 = passed _ _ _ (lit< tt) (s5 .1) in
-      record {
-        range = eqb-true _ _ (s1 .0);
-        rows = eqb-true _ _ (s2 .0);
-        first = eqb-true _ _ (s3 .0);
-        second = eqb-true _ _ (s4 .0);
-        into-a = eqb-true _ _ (s5 .0);
-        into-b = eqb-true _ _ (s6 .0);
-      }
+      let f = good p (externalChecks p lr la lb lx ly) refl e in
+      record { range = f .0; rows = f .1 .0; first = f .1 .1 .0; second = f .1 .1 .1 .0; into-a = f .1 .1 .1 .1 .0; into-b = f .1 .1 .1 .1 .1 .0 }
 
   -- for callers: good arguments are not refused
   pub external-done : ExternalGood p lr la lb lx ly → externalNumber p lr la lb lx ly ≡ 0
   unfolding externalNumber
-  external-done g =
-      simp (eq-eqb (paramsNumber p) 0 (g .range), eq-eqb lr (bitWords p) (g .rows), eq-eqb la (size p) (g .first), eq-eqb lb (size p) (g .second), eq-eqb lx (size p) (g .into-a), eq-eqb ly (size p) (g .into-b))
+  external-done g = done p (externalChecks p lr la lb lx ly) (g .range, (g .rows, (g .first, (g .second, (g .into-a, (g .into-b, tt))))))
 
 pub record CmuxGood (p : Params) (la lb lc ld lr lx ly : ℕ) : Type 0 where
   pub range : paramsNumber p ≡ 0
@@ -122,36 +103,10 @@ module _ (p : Params) (la lb lc ld lr lx ly : ℕ) where
   pub cmux-good : cmuxNumber p la lb lc ld lr lx ly ≡ 0 → CmuxGood p la lb lc ld lr lx ly
   unfolding cmuxNumber
   cmux-good e =
-      let s1 = passed _ _ _ (lit< tt) e in
-      let s2 = passed _ _ _ (lit< tt) (s1 .1) in
-      let s3 = passed _ _ _ (lit< tt) (s2 .1) in
-      let s4 = passed _ _ _ (lit< tt) (s3 .1) in
-      let s5 = passed _ _ _ (lit< tt) (s4 .1) in
-      let s6 = passed _ _ _ (lit< tt) (s5 .1) in
-      let s7 = passed _ _ _ (lit< tt) (s6 .1) in
-      let s8 = passed _ _ _ (lit< tt) (s7 .1) in
-      record {
-        range = eqb-true _ _ (s1 .0);
-        first = eqb-true _ _ (s2 .0);
-        second = eqb-true _ _ (s3 .0);
-        third = eqb-true _ _ (s4 .0);
-        fourth = eqb-true _ _ (s5 .0);
-        rows = eqb-true _ _ (s6 .0);
-        into-a = eqb-true _ _ (s7 .0);
-        into-b = eqb-true _ _ (s8 .0);
-      }
+      let f = good p (cmuxChecks p la lb lc ld lr lx ly) refl e in
+      record { range = f .0; first = f .1 .0; second = f .1 .1 .0; third = f .1 .1 .1 .0; fourth = f .1 .1 .1 .1 .0; rows = f .1 .1 .1 .1 .1 .0; into-a = f .1 .1 .1 .1 .1 .1 .0; into-b = f .1 .1 .1 .1 .1 .1 .1 .0 }
 
   -- for callers: good arguments are not refused
   pub cmux-done : CmuxGood p la lb lc ld lr lx ly → cmuxNumber p la lb lc ld lr lx ly ≡ 0
   unfolding cmuxNumber
-  cmux-done g =
-      simp (
-        eq-eqb (paramsNumber p) 0 (g .range),
-        eq-eqb la (size p) (g .first),
-        eq-eqb lb (size p) (g .second),
-        eq-eqb lc (size p) (g .third),
-        eq-eqb ld (size p) (g .fourth),
-        eq-eqb lr (bitWords p) (g .rows),
-        eq-eqb lx (size p) (g .into-a),
-        eq-eqb ly (size p) (g .into-b),
-      )
+  cmux-done g = done p (cmuxChecks p la lb lc ld lr lx ly) (g .range, (g .first, (g .second, (g .third, (g .fourth, (g .rows, (g .into-a, (g .into-b, tt))))))))

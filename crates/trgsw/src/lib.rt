@@ -12,8 +12,6 @@ ghost use Rattle.trgsw.specs.Refusals.{externalNumber, externalOut, exte
 use params::Answer;
 use params::Params;
 
-mod words;
-
 // Row r: its digit polynomial, put into d, times both halves of the row, added to the sums. No row is copied.
 fn external_row(
     p: Params,
@@ -81,8 +79,8 @@ fn put_external(p: Params, rows: &[u32], a: &[u32], b: &[u32], outa: &mut [u32],
     ensures { λ _. ⌜ now (outa .exit) ≡ external p (now (rows .entry)) (record { a = now (a .entry); b = now (b .entry) }) .a ⌝ }
     ensures { λ _. ⌜ now (outb .exit) ≡ external p (now (rows .entry)) (record { a = now (a .entry); b = now (b .entry) }) .b ⌝ }
 {
-    words::clear(outa);
-    words::clear(outb);
+    words::fill(0, outa);
+    words::fill(0, outb);
     add_external(p, rows, a, b, outa, outb);
 }
 
@@ -149,25 +147,11 @@ fn external_number(p: Params, lr: usize, la: usize, lb: usize, lx: usize, ly: us
     ensures { λ r. ⌜ r ≡ externalNumber p lr la lb lx ly ⌝ }
 {
     let s = params::sizes_of(p);
-    if s.number != 0 {
-        return 1;
-    }
-    if lr != s.bit {
-        return 2;
-    }
-    if la != s.size {
-        return 2;
-    }
-    if lb != s.size {
-        return 2;
-    }
-    if lx != s.size {
-        return 2;
-    }
-    if ly != s.size {
-        return 2;
-    }
-    0
+    let number = refusals::is(s.number, lr, s.bit, 2);
+    let number = refusals::is(number, la, s.size, 2);
+    let number = refusals::is(number, lb, s.size, 2);
+    let number = refusals::is(number, lx, s.size, 2);
+    refusals::is(number, ly, s.size, 2)
 }
 
 // The external product of one bit's 2L rows with the pair (a, b): the sum of digit polynomial times row. Refusals: 1, 2.
@@ -224,31 +208,13 @@ fn cmux_number(
     ensures { λ r. ⌜ r ≡ cmuxNumber p la lb lc ld lr lx ly ⌝ }
 {
     let s = params::sizes_of(p);
-    if s.number != 0 {
-        return 1;
-    }
-    if la != s.size {
-        return 2;
-    }
-    if lb != s.size {
-        return 2;
-    }
-    if lc != s.size {
-        return 2;
-    }
-    if ld != s.size {
-        return 2;
-    }
-    if lr != s.bit {
-        return 2;
-    }
-    if lx != s.size {
-        return 2;
-    }
-    if ly != s.size {
-        return 2;
-    }
-    0
+    let number = refusals::is(s.number, la, s.size, 2);
+    let number = refusals::is(number, lb, s.size, 2);
+    let number = refusals::is(number, lc, s.size, 2);
+    let number = refusals::is(number, ld, s.size, 2);
+    let number = refusals::is(number, lr, s.bit, 2);
+    let number = refusals::is(number, lx, s.size, 2);
+    refusals::is(number, ly, s.size, 2)
 }
 
 // in1 + product(in2 - in1), in1 being (a1, b1) and in2 (a2, b2): in1 where the rows encrypt 0, in2 where they encrypt 1. Refusals: 1, 2.

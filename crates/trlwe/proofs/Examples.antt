@@ -3,7 +3,7 @@
 use mathlib.Core.Path.{_≡_, refl}
 use mathlib.Core.List.{[], _∷_}
 use Rattle.params.specs.declared.Params.{Params}
-use Rattle.params.specs.Ranges.{paramsNumber, switchingNumber}
+use Rattle.params.specs.Ranges.{paramsNumber}
 use Rattle.params.specs.Published.{numbers}
 use Rattle.ring.specs.Word.{Q, comp}
 use Rattle.ring.specs.Sums.{tab}
@@ -19,5 +19,5 @@ pub extract-ends : (extractOut four (1 ∷ 2 ∷ 3 ∷ 4 ∷ []) (5 ∷ 6 ∷ 7 
     × (extractNumber four 4 4 4 5 ≡ 3)
     × (extractNumber four 4 3 4 5 ≡ 2)
     × (extractNumber (numbers 0 2 6 3 2 8) 4 3 4 5 ≡ 1)
-unfolding extractNumber paramsNumber switchingNumber extract tab comp Q
+unfolding extractNumber paramsNumber extract tab comp Q
 extract-ends = (refl, refl, refl, refl)

@@ -1,30 +1,28 @@
 -- Pairs of polynomials: what the calls on one leave, put together; the phase of a fresh pair is the plain words plus the noise, and so decryption
 -- gives its bits back where the noise is strictly inside 2^29; the phase of an extracted sample is the pair's at k and the ones of the key after k.
 -- Assumes nothing.
-use mathlib.Core.Path.{_≡_, refl, sym, ap, ap₂, _∙_}
+use mathlib.Core.Path.{_≡_, refl, sym, ap, _∙_}
 use mathlib.Core.List.{List, [], _∷_}
 use Prim.Native.Nat.{ℕ, _+_, _*_, _%_, _^_, _<_}
 use native.Mathlib.Omega.{arith}
 use lib.IntN.{natAbs}
-use lib.ListN.{length, List·getD-append}
-use lib.Seq.{getD-at}
+use lib.ListN.{length}
 use Rattle.params.specs.declared.Params.{Params}
 use Rattle.params.specs.Ranges.{InRange}
 use Rattle.params.specs.Sizes.{size}
-use Rattle.ring.specs.Word.{Q, at, neg}
+use Rattle.ring.specs.Word.{Q, at, neg, eighth}
 use Rattle.ring.specs.Sums.{tab}
 use Rattle.ring.specs.Poly.{plus, minus, times}
-use Rattle.ring.specs.Phase.{phase, extract, inner, samplePhase, after}
+use Rattle.ring.specs.Phase.{phase, phaseOf, after}
 use Rattle.ring.specs.Centre.{centre}
-use Rattle.ring.proofs.Tab.{at-tab, tab-ext, length-tab}
-use Rattle.ring.proofs.SumLaws.{sum-ext}
+use Rattle.ring.proofs.Tab.{at-tab, tab-ext}
 use Rattle.ring.proofs.Solve.{#, _:+_, _:-_, _:*_, solve}
 use Rattle.ring.proofs.Value.{by-value, 𝓟, value, value-plus, value-times}
 use Rattle.ring.proofs.Laws.{phase-proper, plus-proper, value-phase}
 use Rattle.ring.proofs.Extract.{phase-extract}
 use Rattle.product.specs.Product.{polyMulOut, polyMulAddOut}
-use Rattle.product.proofs.Uses.{poly-mul-done, poly-mul-add-done, length-plus}
-use Rattle.tlwe.specs.Key.{phaseOf}
+use Rattle.product.proofs.Uses.{poly-mul-done, poly-mul-add-done}
+use Rattle.ring.proofs.Places.{length-plus}
 use Rattle.tlwe.specs.Plain.{bitWord}
 use Rattle.tlwe.specs.Decrypt.{bitOf}
 use Rattle.tlwe.proofs.Inverse.{bit-back}
@@ -65,7 +63,7 @@ module _ (N : ℕ) (h : 0 < N) where
       (# 0 :+ # 1 :+ # 2 :* # 3 :- # 2 :* # 3) (# 0 :+ # 1) refl))
 
   -- decryption inverts encryption of bits
-  pub bits-back : (bytes noise masks z : List ℕ) → length bytes ≡ N → ((i : ℕ) → at noise i < Q) → ((i : ℕ) → i < N → natAbs (centre (at noise i)) < 2 ^ 29)
+  pub bits-back : (bytes noise masks z : List ℕ) → length bytes ≡ N → ((i : ℕ) → at noise i < Q) → ((i : ℕ) → i < N → natAbs (centre (at noise i)) < eighth)
       → decrypted N z masks (freshBody N (wordsOfBits bytes) noise masks z) ≡ tab N (λ i. bitNumber (truth (at bytes i)))
   unfolding decrypted plus
   bits-back bytes noise masks z e w s = tab-ext N _ _ (λ i l.
@@ -77,15 +75,6 @@ module _ (N : ℕ) (h : 0 < N) where
 
   -- ---- extraction
 
-  length-extract : (k : ℕ) (a : List ℕ) → length (extract N k a) ≡ N
-  unfolding extract
-  length-extract k a = length-tab N _
-
   -- the sample's phase: the coefficient at k of the pair's phase, and one for each one of the key after k
   pub phase-extracted : (k : ℕ) (z a b : List ℕ) → k < N → phaseOf N z (extracted N k a b) ≡ (at (phase N z a b) k + after N k z) % Q
-  unfolding samplePhase inner
-  phase-extracted k z a b l =
-      ap₂ (λ (x y : ℕ). (x + neg y) % Q) (getD-at (extract N k a) (at b k) [] 0 N (length-extract k a))
-      (sum-ext N (λ i. at (extracted N k a b) i * at z i) (λ i. at (extract N k a) i * at z i) (λ i li.
-      ap (λ (x : ℕ). x * at z i) (List·getD-append (extract N k a) (at b k ∷ []) 0 i (let u : i < length (extract N k a) = omega (arith, length-extract k a) in u))))
-      ∙ phase-extract N h k z a b l
+  phase-extracted k z a b l = phase-extract N h k z a b l

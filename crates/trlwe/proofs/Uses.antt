@@ -11,13 +11,12 @@ use Rattle.params.specs.Ranges.{InRange}
 use Rattle.params.specs.Sizes.{size}
 use Rattle.params.proofs.Answers.{when-done}
 use Rattle.params.proofs.Ranges.{size-from}
-use Rattle.ring.specs.Word.{Q, at}
+use Rattle.ring.specs.Word.{Q, at, eighth}
 use Rattle.ring.specs.Sums.{tab}
 use Rattle.ring.specs.Poly.{plus}
-use Rattle.ring.specs.Phase.{phase, after}
+use Rattle.ring.specs.Phase.{phase, after, phaseOf}
 use Rattle.ring.specs.Centre.{centre}
-use Rattle.product.proofs.Uses.{length-plus}
-use Rattle.tlwe.specs.Key.{phaseOf}
+use Rattle.ring.proofs.Places.{length-plus}
 use Rattle.trlwe.specs.Extract.{extractNumber, extracted, extractOut}
 use Rattle.trlwe.specs.Encrypt.{freshBody, wordsOfBits, maskOut, bodyOut}
 use Rattle.trlwe.specs.Decrypt.{decrypted, decryptOut}
@@ -62,7 +61,7 @@ length-fresh N plain noise masks z = length-plus N _ _
 -- encrypted bits come back, where every noise word, centred, is strictly inside 2^29
 pub encrypt-decrypt : (p : Params) (bytes masks noise key a b o : List ℕ)
     → EncryptGood p (length bytes) (length masks) (length noise) key (length a) (length b) → length o ≡ size p
-    → ((i : ℕ) → at noise i < Q) → ((i : ℕ) → i < size p → natAbs (centre (at noise i)) < 2 ^ 29)
+    → ((i : ℕ) → at noise i < Q) → ((i : ℕ) → i < size p → natAbs (centre (at noise i)) < eighth)
     → decryptOut p (maskOut p (length bytes) masks noise key a b) (bodyOut p (length bytes) (wordsOfBits bytes) masks noise key a b) key o
     ≡ tab (size p) (λ i. bitNumber (truth (at bytes i)))
 encrypt-decrypt p bytes masks noise key a b o g lo w s =

@@ -1,29 +1,30 @@
 -- Decryption to N bits (01, trlwe): each coefficient of the phase b - a·z as a bit.
-use mathlib.Core.Bool.{Bool, cond}
-use mathlib.Core.List.{List}
+use mathlib.Core.List.{List, [], _∷_}
 use Prim.Native.Nat.{ℕ}
-use lib.Dec.{eqb}
 use lib.ListN.{length}
 use Rattle.params.specs.declared.Params.{Params}
-use Rattle.params.specs.Refusal.{check, ifDone}
-use Rattle.params.specs.Ranges.{paramsNumber}
+use Rattle.params.specs.Refusal.{ifDone}
 use Rattle.params.specs.Sizes.{size}
+use Rattle.refusals.specs.Table.{Check, is, holds, refusalBy}
 use Rattle.ring.specs.Word.{at}
 use Rattle.ring.specs.Sums.{tab}
 use Rattle.ring.specs.Phase.{phase}
-use Rattle.tlwe.specs.Key.{keyNumber}
+use Rattle.tlwe.specs.Key.{binary}
 use Rattle.tlwe.specs.Decrypt.{bitOf}
 use Rattle.ring.specs.Bit.{bitNumber}
 
 -- The refusals of a decryption of la and lb words into lo bytes: 1, then 2 unless each has N, then 4.
+abbrev pub decryptPairChecks : Params → ℕ → ℕ → List ℕ → ℕ → List Check
+decryptPairChecks p la lb key lo =
+    is la (size p) 2
+    ∷ is lb (size p) 2
+    ∷ is (length key) (size p) 2
+    ∷ is lo (size p) 2
+    ∷ holds (binary key) 4
+    ∷ []
+
 unfoldable pub decryptPairNumber : Params → ℕ → ℕ → List ℕ → ℕ → ℕ
-decryptPairNumber p la lb key lo =
-    check (eqb (paramsNumber p) 0) 1
-    (check (eqb la (size p)) 2
-    (check (eqb lb (size p)) 2
-    (check (eqb (length key) (size p)) 2
-    (check (eqb lo (size p)) 2
-    (keyNumber key)))))
+decryptPairNumber p la lb key lo = refusalBy p (decryptPairChecks p la lb key lo)
 
 -- The bits of a pair under the key z.
 unfoldable pub decrypted : ℕ → List ℕ → List ℕ → List ℕ → List ℕ

@@ -1,31 +1,32 @@
 -- Encryption of N doubles or N bits (01, trlwe): a = the lent masks, b = lent noise + plain words + a·z, z the level-1 key.
-use mathlib.Core.Bool.{Bool}
-use mathlib.Core.List.{List}
+use mathlib.Core.List.{List, [], _∷_}
 use Prim.Native.Nat.{ℕ}
-use lib.Dec.{eqb, ltb}
 use lib.ListN.{length}
 use Rattle.params.specs.declared.Params.{Params}
-use Rattle.params.specs.Refusal.{check, ifDone}
-use Rattle.params.specs.Ranges.{paramsNumber}
+use Rattle.params.specs.Refusal.{ifDone}
 use Rattle.params.specs.Sizes.{size}
+use Rattle.refusals.specs.Table.{Check, is, holds, refusalBy}
 use Rattle.ring.specs.Word.{at}
 use Rattle.ring.specs.Sums.{tab}
 use Rattle.ring.specs.Poly.{plus, times}
-use Rattle.tlwe.specs.Key.{keyNumber}
+use Rattle.tlwe.specs.Key.{binary}
 use Rattle.tlwe.specs.Plain.{bitWord}
 use Rattle.ring.specs.Bit.{truth}
 
 -- The refusals of an encryption of lp values with lm masks and ln noise words into la and lb words: 1, then 2 unless each has N, then 4.
+abbrev pub encryptPairChecks : Params → ℕ → ℕ → ℕ → List ℕ → ℕ → ℕ → List Check
+encryptPairChecks p lp lm ln key la lb =
+    is lp (size p) 2
+    ∷ is lm (size p) 2
+    ∷ is ln (size p) 2
+    ∷ is (length key) (size p) 2
+    ∷ is la (size p) 2
+    ∷ is lb (size p) 2
+    ∷ holds (binary key) 4
+    ∷ []
+
 unfoldable pub encryptPairNumber : Params → ℕ → ℕ → ℕ → List ℕ → ℕ → ℕ → ℕ
-encryptPairNumber p lp lm ln key la lb =
-    check (eqb (paramsNumber p) 0) 1
-    (check (eqb lp (size p)) 2
-    (check (eqb lm (size p)) 2
-    (check (eqb ln (size p)) 2
-    (check (eqb (length key) (size p)) 2
-    (check (eqb la (size p)) 2
-    (check (eqb lb (size p)) 2
-    (keyNumber key)))))))
+encryptPairNumber p lp lm ln key la lb = refusalBy p (encryptPairChecks p lp lm ln key la lb)
 
 -- b of a fresh pair: plain words + noise + a·z, where a is the masks.
 unfoldable pub freshBody : ℕ → List ℕ → List ℕ → List ℕ → List ℕ → List ℕ

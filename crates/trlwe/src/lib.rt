@@ -1,8 +1,6 @@
 // Pairs of polynomials (src/trlwe.rs): a and b, N words each. Masks and noise are lent, and the product is exact (01, trlwe).
-use loops::add_into;
 use loops::bits_into;
 use loops::bits_of;
-use loops::copy_into;
 use params::Answer;
 use params::Params;
 ghost use mathlib.Core.Path.{_≡_};
@@ -26,22 +24,10 @@ fn extract_number(p: Params, la: usize, lb: usize, k: usize, lo: usize) -> u32
     ensures { λ r. ⌜ r ≡ extractNumber p la lb k lo ⌝ }
 {
     let s = params::sizes_of(p);
-    if s.number != 0 {
-        return 1;
-    }
-    if la != s.size {
-        return 2;
-    }
-    if lb != s.size {
-        return 2;
-    }
-    if lo != s.level1 {
-        return 2;
-    }
-    if s.size <= k {
-        return 3;
-    }
-    0
+    let number = refusals::is(s.number, la, s.size, 2);
+    let number = refusals::is(number, lb, s.size, 2);
+    let number = refusals::is(number, lo, s.level1, 2);
+    refusals::below(number, k, s.size, 3)
 }
 
 // Mask i of the sample: past k the Rust complements (`Torus::MAX - x`) where X^N asks for a negation.
@@ -94,28 +80,13 @@ fn encrypt_number(
     ensures { λ r. ⌜ r ≡ encryptPairNumber p plain masks noise (now (key .entry)) la lb ⌝ }
 {
     let s = params::sizes_of(p);
-    if s.number != 0 {
-        return 1;
-    }
-    if plain != s.size {
-        return 2;
-    }
-    if masks != s.size {
-        return 2;
-    }
-    if noise != s.size {
-        return 2;
-    }
-    if key.len() != s.size {
-        return 2;
-    }
-    if la != s.size {
-        return 2;
-    }
-    if lb != s.size {
-        return 2;
-    }
-    tlwe::keys::key_number(key)
+    let number = refusals::is(s.number, plain, s.size, 2);
+    let number = refusals::is(number, masks, s.size, 2);
+    let number = refusals::is(number, noise, s.size, 2);
+    let number = refusals::is(number, key.len(), s.size, 2);
+    let number = refusals::is(number, la, s.size, 2);
+    let number = refusals::is(number, lb, s.size, 2);
+    refusals::also(number, tlwe::keys::is_binary(key), 4)
 }
 
 // The pair, the plain words standing in b.
@@ -123,8 +94,8 @@ fn seal(p: Params, masks: &[u32], noise: &[u32], key: &[u32], a: &mut [u32], b: 
     requires { ⌜ InRange p × (length (now masks) ≡ size p) × (length (now noise) ≡ size p) × (length (now key) ≡ size p) × (length (now a) ≡ size p) × (length (now b) ≡ size p) ⌝ }
     ensures { λ _. ⌜ (now (a .exit) ≡ now (masks .entry)) × (now (b .exit) ≡ freshBody (size p) (now (b .entry)) (now (noise .entry)) (now (masks .entry)) (now (key .entry))) ⌝ }
 {
-    copy_into(masks, a);
-    add_into(noise, b);
+    words::copy(masks, a);
+    words::add(noise, b);
     product::poly_mul_add(p, masks, key, b);
 }
 
@@ -225,22 +196,11 @@ fn decrypt_number(p: Params, la: usize, lb: usize, key: &[u32], lo: usize) -> u3
     ensures { λ r. ⌜ r ≡ decryptPairNumber p la lb (now (key .entry)) lo ⌝ }
 {
     let s = params::sizes_of(p);
-    if s.number != 0 {
-        return 1;
-    }
-    if la != s.size {
-        return 2;
-    }
-    if lb != s.size {
-        return 2;
-    }
-    if key.len() != s.size {
-        return 2;
-    }
-    if lo != s.size {
-        return 2;
-    }
-    tlwe::keys::key_number(key)
+    let number = refusals::is(s.number, la, s.size, 2);
+    let number = refusals::is(number, lb, s.size, 2);
+    let number = refusals::is(number, key.len(), s.size, 2);
+    let number = refusals::is(number, lo, s.size, 2);
+    refusals::also(number, tlwe::keys::is_binary(key), 4)
 }
 
 // The bits, with the scratch for the product lent.

@@ -4,35 +4,10 @@ ghost use Prim.Native.Nat.{_+_, _%_};
 ghost use lib.ListN.{length};
 ghost use Rattle.ring.specs.Word.{Q, at, neg};
 ghost use Rattle.ring.specs.Sums.{tab};
-ghost use Rattle.ring.specs.Poly.{plus};
 ghost use Rattle.tlwe.specs.Plain.{bitWord};
 ghost use Rattle.tlwe.specs.Decrypt.{bitOf};
 ghost use Rattle.trlwe.specs.Encrypt.{wordsOfBits};
 ghost use Rattle.ring.specs.Bit.{truth, bitNumber};
-
-// The words, into out.
-pub(crate) fn copy_into(source: &[u32], out: &mut [u32])
-    requires { ⌜ length (now source) ≡ length (now out) ⌝ }
-    ensures { λ _. ⌜ now (out .exit) ≡ now (source .entry) ⌝ }
-{
-    let mut i = 0;
-    while i < source.len() {
-        out[i] = source[i];
-        i += 1;
-    }
-}
-
-// The words, added to out.
-pub(crate) fn add_into(source: &[u32], out: &mut [u32])
-    requires { ⌜ length (now source) ≡ length (now out) ⌝ }
-    ensures { λ _. ⌜ now (out .exit) ≡ plus (length (now (out .entry))) (now (out .entry)) (now (source .entry)) ⌝ }
-{
-    let mut i = 0;
-    while i < out.len() {
-        out[i] = ring::add(out[i], source[i]);
-        i += 1;
-    }
-}
 
 // The word of a lent bit, ±0.125 of a turn.
 fn bit_word(byte: u8) -> u32

@@ -14,9 +14,10 @@ use lib.Ieee.Exact.{HasValue}
 use lib.Ieee.Nearest.{div-same}
 use lib.Ieee.Compare.{differs-from-itself}
 use Rattle.ring.specs.Word.{Q, Q-pos}
-use Rattle.utils.specs.Torus.{word, signed, IsFraction, IsScaledFraction}
+use Rattle.utils.specs.Torus.{word}
+use Rattle.utils.specs.Private.{IsFraction, IsScaledFraction}
 use Rattle.utils.proofs.Exact.{one, rem-one, mul-pow}
-use Rattle.utils.proofs.Laws.{signed-zero}
+use Rattle.utils.proofs.Laws.{signed, signed-zero}
 
 abbrev pub zeroF : Float
 zeroF = fin false 0 (pos 0)

@@ -2,7 +2,7 @@
 -- and of the slice form.
 -- Assumes nothing.
 use mathlib.Core.Path.{_≡_, refl, sym, ap, _∙_}
-use Prim.Native.Nat.{ℕ, _+_, _*_, _/_, _%_, _<_}
+use Prim.Native.Nat.{ℕ, zero, suc, _+_, _*_, _/_, _%_, _<_}
 use native.Mathlib.Nat.{mod-lt, mod-eq-of-lt, mul-comm, mul-assoc, mul-right-comm, mul-lt-mul-of-pos-right, mul-div-cancel, div-add-mod', add-mul}
 use mathlib.Core.Bool.{Bool, true, false}
 use mathlib.Core.List.{List}
@@ -15,20 +15,31 @@ use lib.Ieee.Exact.{HasValue}
 use lib.Ieee.Nearest.{div-same}
 use borrow.Author.Tests.{eq-eqb, eqb-true}
 use Rattle.ring.specs.Word.{Q, Q-pos, at, neg}
+use Rattle.ring.specs.Centre.{wordOf}
+use Rattle.ring.proofs.Centre.{number-below}
 use Rattle.ring.proofs.Tab.{at-tab, length-tab}
 use Rattle.params.proofs.Answers.{passed}
-use Rattle.utils.specs.Torus.{word, signed, fractionWord, doubleAt, wordsOfDoubles, vecNumber}
+use Rattle.utils.specs.Torus.{word, withSign, fractionWord, doubleAt, wordsOfDoubles, vecNumber}
+
+-- the word of a whole number by its sign and size
+abbrev pub signed : Bool → ℕ → ℕ
+signed s n = wordOf (withSign s n)
 
 -- 0 has no sign
 pub signed-zero : (s : Bool) → signed s 0 ≡ 0
-unfolding Q neg
+unfolding Q
 signed-zero false = refl
 signed-zero true = refl
 
+-- as the code works it out: the size cut, and the word negated
+pub signed-negative : (n : ℕ) → signed true n ≡ neg n % Q
+unfolding Q neg
+signed-negative zero = refl
+signed-negative (suc n) = refl
+
 -- every word is below Q
 pub signed-below : (s : Bool) (n : ℕ) → signed s n < Q
-signed-below false n = mod-lt n Q-pos
-signed-below true n = mod-lt (neg n) Q-pos
+signed-below s n = number-below (withSign s n)
 
 pub word-below : (d : Float) → word d < Q
 unfolding word

@@ -5,7 +5,8 @@ ghost use lib.Ieee.Exact.{HasValue};
 ghost use Rattle.ring.specs.Word.{Q};
 ghost use lib.ListN.{length};
 ghost use Rattle.params.specs.Refusal.{answer, ifDone};
-ghost use Rattle.utils.specs.Torus.{word, wordsOfDoubles, vecNumber, IsFraction, IsScaledFraction};
+ghost use Rattle.utils.specs.Torus.{word, wordsOfDoubles, vecNumber};
+ghost use Rattle.utils.specs.Private.{IsFraction, IsScaledFraction};
 use params::Answer;
 
 // A word: it counts 2^-32 of a turn (`Torus` of src/params.rs).

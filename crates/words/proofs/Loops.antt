@@ -1,15 +1,15 @@
 -- The laws of a copy, and of a loop that stops at the shorter of two slices.
 -- Assumes nothing.
 use mathlib.Core.Path.{_≡_, refl, sym, ap, ap₂, _∙_}
-use mathlib.Core.List.{List, _++_, append-nil}
+use mathlib.Core.List.{List, [], _∷_, _++_, append-nil}
 use mathlib.Core.Logic.{_⊎_, ⊎-elim}
 use mathlib.Core.Bool.{Bool, true, false}
-use Prim.Native.Nat.{ℕ, _+_, _-_, _%_, _≤_, _<_}
+use Prim.Native.Nat.{ℕ, suc, _+_, _-_, _%_, _≤_, _<_}
 use native.Mathlib.Omega.{arith}
 use borrow.Author.Tests.{ltb-true, ltb-false}
 use lib.Dec.{ltb}
-use lib.ListN.{length, take, drop, List·getD-append, List·getD-eq-default, length-append, length-drop, drop-of-length-le}
-use lib.Seq.{take-all, length-take-le, getD-take, getD-drop, getD-append-add}
+use lib.ListN.{length, take, drop, set, List·getD-append, List·getD-eq-default, length-append, length-drop, drop-of-length-le}
+use lib.Seq.{take-all, length-take-le, getD-take, getD-drop, getD-append-add, drop-cons, set-at}
 use Rattle.ring.specs.Word.{Q, at, neg}
 use Rattle.ring.specs.Sums.{tab}
 use Rattle.ring.specs.Poly.{plus, minus}
@@ -28,6 +28,14 @@ copied-all a o e =
 pub copied-front : (a o : List ℕ) → length a ≤ length o → copied a o ≡ a ++ drop (length a) o
 unfolding copied
 copied-front a o h = rw (take-all (length o) a h)
+
+-- into one word more, which is written then: the list, and that word after it
+pub copied-last : (a o : List ℕ) (v : ℕ) {out : List ℕ} → length o ≡ length a + 1 → out ≡ copied a o → set out (length a) v ≡ a ++ (v ∷ [])
+copied-last a o v e c =
+    let h : length a < length o = omega arith in
+    let f : length a ≤ length o = omega arith in
+    let z : length o ≤ suc (length a) = omega arith in
+    rw (c ∙ copied-front a o f, drop-cons o (length a) 0 h, drop-of-length-le o z) (set-at a (at o (length a)) [] v (length a) refl)
 
 -- ---- a loop that wrote f 0 .. f (m - 1) over o
 

@@ -1,8 +1,9 @@
 //! Circuits against an independent reader and evaluator: answer and place, counts, work, plain run;
 //! valid ones, damaged ones, every byte of small ones set to every value.
 
-use crate::case::{Arg, Set, Tally};
+use crate::case::{Arg, Set};
 use crate::circuits::{damage, read, run_plain, valid, KINDS};
+use crate::compare::Tally;
 use crate::ffi::circuit::*;
 use crate::source::Source;
 

@@ -1,15 +1,16 @@
 //! Drift runs against the reckoning in whole numbers: any words in any slice, refusals in order, single words. Random circuits are in `drift_circuits`.
 
-use super::drift_circuits;
-use super::gates::{self, BOOTSTRAPPING, SWITCHING};
-use crate::case::{self, Arg, Kind, Routine, Set, Slot, Tally};
+use crate::case::{Arg, Kind, Routine, Set, Slot};
 use crate::circuits::{read, Circuit};
+use crate::compare::{self, Tally};
 use crate::exact_run::{cipher, outputs};
 use crate::ffi::drift::*;
 use crate::reckoned_run::{self, words};
 use crate::reckoning::{centred, inside, word, Reckoner, Whole};
+use crate::sizes::Sizes;
 use crate::source::Source;
-use crate::table::Sizes;
+use super::drift_circuits;
+use super::gates::{self, BOOTSTRAPPING, SWITCHING};
 
 const KEY: Slot = Slot::Key(|s| s.n);
 const RING_KEY: Slot = Slot::Key(|s| s.ring);
@@ -97,7 +98,7 @@ pub static ROUTINES: [Routine; 3] = [
 
 pub fn run(set: &Set, tally: &mut Tally) {
     for r in &ROUTINES {
-        case::run(tally, r, set, 20_000_000, 150);
+        compare::run(tally, r, set, 20_000_000, 150);
     }
     let mut source = Source::new(crate::SEED, &format!("drift {}", set.name));
     told_inside(tally, &mut source);

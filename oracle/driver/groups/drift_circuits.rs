@@ -1,8 +1,9 @@
 //! Drift runs of random circuits, honest keys and junk, from next to no noise to too much: every word against the reckoning and the encrypted run, the run gate
 //! by gate, and demand 3 itself.
 
-use crate::case::{Arg, Tally};
+use crate::case::Arg;
 use crate::circuits::{read, run_plain, valid, Circuit, KINDS};
+use crate::compare::Tally;
 use crate::exact_run::{cipher, outputs};
 use crate::ffi::drift::*;
 use crate::ffi::encrypted::egl_circuit_run_encrypted;

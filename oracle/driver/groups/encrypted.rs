@@ -1,17 +1,18 @@
 //! Encrypted runs of circuits. Every wire and output word for word against the exact steps, beside the library's single gates and its
 //! run gate by gate; with other key rows where no gate looks; with honest keys by decrypted bits.
 
-use super::gates::{self, BOOTSTRAPPING, SWITCHING};
-use crate::case::{self, Arg, Routine, Set, Slot, Tally};
+use crate::case::{Arg, Routine, Set, Slot};
 use crate::circuits::{plain_wires, read, run_plain, valid, Circuit, KINDS};
+use crate::compare::{self, Tally};
 use crate::draw;
 use crate::exact;
 use crate::exact_run::{self, cipher, outputs};
 use crate::ffi::encrypted::*;
 use crate::ffi::gates::{egl_gates_constant, egl_gates_not};
 use crate::honest::Keys;
+use crate::sizes::Sizes;
 use crate::source::Source;
-use crate::table::Sizes;
+use super::gates::{self, BOOTSTRAPPING, SWITCHING};
 
 const WIRES: Slot = Slot::CiphersOut(Circuit::wires);
 
@@ -59,7 +60,7 @@ pub static ROUTINES: [Routine; 2] = [
 
 pub fn run(set: &Set, tally: &mut Tally) {
     for r in &ROUTINES {
-        case::run(tally, r, set, 40_000_000, 150);
+        compare::run(tally, r, set, 40_000_000, 150);
     }
     let [n, nbit, bgbit, l, basebit, t] = set.p;
     // The same circuits on every machine: those with honest keys are known to have room for their noise.

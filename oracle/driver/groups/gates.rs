@@ -1,16 +1,17 @@
 //! The gates: with junk keys word for word against the exact steps (and against the
 //! original where its transform is exact), with honest keys by decrypted bits as well.
 
-use super::fine;
-use crate::case::{self, Arg, Kind, Routine, Set, Slot, Tally};
+use crate::case::{Arg, Kind, Routine, Set, Slot};
+use crate::compare::{self, Tally};
 use crate::exact;
 use crate::exact_run;
 use crate::exact_words::agreed;
 use crate::ffi::gates::*;
 use crate::honest::Keys;
+use crate::sizes::Sizes;
 use crate::source::Source;
-use crate::table::Sizes;
 use oracle_api::Cloud;
+use super::fine;
 
 const C: Slot = Slot::In(Kind::Words, |s| s.n + 1);
 const OUT: Slot = Slot::Out(Kind::Words, |s| s.n + 1);
@@ -99,12 +100,12 @@ pub fn library(p: &[u32; 6], name: &str, inputs: &[&[u32]], keys: &Keys) -> Opti
 
 pub fn run(set: &Set, tally: &mut Tally) {
     for r in &ROUTINES {
-        case::run(tally, r, set, 6_000_000, 100);
+        compare::run(tally, r, set, 6_000_000, 100);
     }
     let [n, nbit, bgbit, l, basebit, t] = set.p;
     let cost = cost(&Sizes::of(&set.p));
-    if fine(&set.p) && cost < 1_000_000_000 / case::SLOW {
-        junk(set, tally, (40_000_000 / case::SLOW / cost).clamp(1, 40));
+    if fine(&set.p) && cost < 1_000_000_000 / compare::SLOW {
+        junk(set, tally, (40_000_000 / compare::SLOW / cost).clamp(1, 40));
     }
     // Where steps of the rotation, digits and switching are fine enough for honest keys.
     let precise = nbit >= 5 && (n as u64) << (30 - nbit) < 1 << 29 && bgbit * l >= 12 && basebit * t >= 12;
@@ -140,11 +141,11 @@ fn junk(set: &Set, tally: &mut Tally, count: usize) {
 /// under an emulator.
 fn honest(set: &Set, tally: &mut Tally, cost: usize) {
     const DEAR: usize = 1_000_000_000;
-    let cheap = cost <= DEAR / case::SLOW;
+    let cheap = cost <= DEAR / compare::SLOW;
     let wanted = |g: usize, pair: usize| match cost {
         _ if cheap => true,
         0..=DEAR => pair == g % 4,
-        _ if case::SLOW == 1 => g % 3 == 0 && pair == g / 3,
+        _ if compare::SLOW == 1 => g % 3 == 0 && pair == g / 3,
         _ => g == 0 && pair == 0,
     };
     let mut source = Source::new(crate::SEED, &format!("honest {}", set.name));

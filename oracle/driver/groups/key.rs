@@ -1,11 +1,12 @@
 //! Key material: the offset, the test vector, the switching key with lent masks and noise, and its rows, word for word against document 01's words and,
 //! where it is at hand, the original.
 
-use crate::case::{self, Arg, Kind, Routine, Set, Slot, Tally};
+use crate::case::{Arg, Kind, Routine, Set, Slot};
+use crate::compare::{self, Tally};
 use crate::exact;
 use crate::exact_words::{self, agreed};
 use crate::ffi::key::*;
-use crate::table::Sizes;
+use crate::sizes::Sizes;
 
 const KEY0: Slot = Slot::Key(|s| s.n);
 const KEY1: Slot = Slot::Key(|s| s.ring);
@@ -99,7 +100,7 @@ fn switching_row(p: &[u32; 6], args: &mut [Arg]) -> u64 {
 
 pub fn run(set: &Set, tally: &mut Tally) {
     for r in &ROUTINES {
-        case::run(tally, r, set, 30_000_000, 300);
+        compare::run(tally, r, set, 30_000_000, 300);
     }
     if set.p[2] == 6 && set.p[3] == 3 {
         let answer = egl_key_decomposition_offset(&set.p, &mut []);

@@ -28,7 +28,8 @@ pub mod trlwe;
 #[cfg(group_utils)]
 pub mod utils;
 
-use crate::case::{Routine, Set, Tally};
+use crate::case::{Routine, Set};
+use crate::compare::Tally;
 
 /// How often a group runs.
 pub enum Run {

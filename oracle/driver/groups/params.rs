@@ -1,8 +1,9 @@
 //! The parameter table: every combination of values on both sides of each limit.
 
-use crate::case::{Routine, Set, Tally};
+use crate::case::{Routine, Set};
+use crate::compare::Tally;
 use crate::ffi::params::*;
-use crate::table;
+use crate::sizes::in_range;
 
 pub static ROUTINES: [Routine; 1] =
     [Routine { name: "params_check", slots: &[], cost: |_| 1000, call: egl_params_check, reference: |_, _| true }];
@@ -49,7 +50,7 @@ pub fn run(sets: &[Set], tally: &mut Tally) {
 
 fn compare(tally: &mut Tally, list: &[[u32; 6]]) {
     for (p, answer) in list.iter().zip(check_all(list)) {
-        let number = !table::in_range(p) as u64;
+        let number = !in_range(p) as u64;
         tally.refusals += number;
         tally.same(answer == number, || format!("params_check {p:?}: {answer}, wanted {number}"));
     }

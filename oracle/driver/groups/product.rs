@@ -1,6 +1,7 @@
 //! The product modulo X^N + 1 and 2^32 against an independent one, for every N.
 
-use crate::case::{self, Arg, Kind, Routine, Set, Slot, Tally};
+use crate::case::{Arg, Kind, Routine, Set, Slot};
+use crate::compare::{self, Tally};
 use crate::exact;
 use crate::ffi::product::*;
 use crate::source::Source;
@@ -39,7 +40,7 @@ pub fn run(_sets: &[Set], tally: &mut Tally) {
         let n = 1usize << nbit;
         let mut source = Source::new(crate::SEED, &format!("product {nbit}"));
         for r in &ROUTINES {
-            case::run(tally, r, &set, 60_000_000, 200);
+            compare::run(tally, r, &set, 60_000_000, 200);
             let mut one = |a: Vec<u32>, b: Vec<u32>, source: &mut Source| {
                 let out = Arg::Words((0..n).map(|_| source.next() as u32).collect());
                 tally.check(r, &set, &p, vec![Arg::Words(a), Arg::Words(b), out]);
@@ -48,7 +49,7 @@ pub fn run(_sets: &[Set], tally: &mut Tally) {
             one(vec![1 << 31; n], vec![u32::MAX; n], &mut source);
             // a single one at each place, in either factor (under an emulator, for large N, in
             // the first factor of one routine and in the second of the other)
-            let both = n < 512 || case::SLOW == 1;
+            let both = n < 512 || compare::SLOW == 1;
             let first = r.name == "product_poly_mul";
             for place in 0..n {
                 let mut unit = vec![0; n];

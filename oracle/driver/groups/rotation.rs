@@ -2,7 +2,8 @@
 //! original at every amount, amounts against their definition (the original rounds inside its
 //! blind rotation, which the group trgsw compares).
 
-use crate::case::{self, Arg, Kind, Routine, Set, Slot, Tally};
+use crate::case::{Arg, Kind, Routine, Set, Slot};
+use crate::compare::{self, Tally};
 use crate::exact;
 use crate::exact_words::agreed;
 use crate::ffi::rotation::*;
@@ -48,7 +49,7 @@ pub static ROUTINES: [Routine; 3] = [
 
 pub fn run(set: &Set, tally: &mut Tally) {
     for r in &ROUTINES {
-        case::run(tally, r, set, 20_000_000, 200);
+        compare::run(tally, r, set, 20_000_000, 200);
     }
     every_amount(set, tally);
     examples(set, tally);

@@ -1,7 +1,8 @@
 //! TLWE at both levels: sums, multiples, encryption and decryption of bits, turns and messages, word for word against document 01's words and, where it
 //! is at hand, the original.
 
-use crate::case::{self, Arg, Kind, Routine, Set, Slot, Tally};
+use crate::case::{Arg, Kind, Routine, Set, Slot};
+use crate::compare::{self, Tally};
 use crate::exact;
 use crate::exact_words::{self, agreed, bit_word, combined, encrypted, message_word};
 use crate::ffi::tlwe::*;
@@ -103,6 +104,6 @@ pub static ROUTINES: [Routine; 20] = joined();
 
 pub fn run(set: &Set, tally: &mut Tally) {
     for r in &ROUTINES {
-        case::run(tally, r, set, 2_000_000, 150);
+        compare::run(tally, r, set, 2_000_000, 150);
     }
 }

@@ -1,13 +1,14 @@
 //! TRGSW, word for word: key generation, decomposition, switching against document 01's words and the original; the external product, cmux and blind rotation
 //! against the exact steps, and where the original's transform is exact (`fine`) against it too.
 
-use super::fine;
-use crate::case::{self, Arg, Kind, Routine, Set, Slot, Tally};
+use crate::case::{Arg, Kind, Routine, Set, Slot};
+use crate::compare::{self, Tally};
 use crate::exact;
 use crate::exact_words::{self, agreed};
 use crate::ffi::trgsw::*;
+use crate::sizes::Sizes;
 use crate::source::Source;
-use crate::table::Sizes;
+use super::fine;
 
 const RING: Slot = Slot::In(Kind::Words, |s| s.ring);
 const OUT: Slot = Slot::Out(Kind::Words, |s| s.ring);
@@ -134,7 +135,7 @@ pub static ROUTINES: [Routine; 8] = [
 
 pub fn run(set: &Set, tally: &mut Tally) {
     for r in &ROUTINES {
-        case::run(tally, r, set, 60_000_000, 200);
+        compare::run(tally, r, set, 60_000_000, 200);
     }
     examples(set, tally);
     if set.original.is_some() && fine(&set.p) {
@@ -148,7 +149,7 @@ fn through_the_transform(set: &Set, tally: &mut Tally) {
     let s = Sizes::of(&set.p);
     let mut source = Source::new(crate::SEED, &format!("transform {}", set.name));
     let mut words = |len: usize| -> Vec<u32> { (0..len).map(|_| source.next() as u32).collect() };
-    for _ in 0..(100_000_000 / case::SLOW / product_cost(&s)).clamp(2, 300) {
+    for _ in 0..(100_000_000 / compare::SLOW / product_cost(&s)).clamp(2, 300) {
         let (rows, a, b, c, d) = (words(s.rows()), words(s.ring), words(s.ring), words(s.ring), words(s.ring));
         let blank = || Arg::Words(vec![0; s.ring]);
         let lend = |x: &[u32]| Arg::Words(x.to_vec());
@@ -161,10 +162,10 @@ fn through_the_transform(set: &Set, tally: &mut Tally) {
         let want = o.cmux((&a, &b), (&c, &d), &rows);
         tally.same(answer == 0 && args[5].w() == want.0 && args[6].w() == want.1, || "cmux and the transform".into());
     }
-    if s.n * product_cost(&s) > 1_000_000_000 / case::SLOW {
+    if s.n * product_cost(&s) > 1_000_000_000 / compare::SLOW {
         return;
     }
-    for _ in 0..(100_000_000 / case::SLOW / (s.n * product_cost(&s))).clamp(1, 200) {
+    for _ in 0..(100_000_000 / compare::SLOW / (s.n * product_cost(&s))).clamp(1, 200) {
         let (key, src) = (words(s.bootstrapping()), words(s.n + 1));
         let mut args = [Arg::Words(src.clone()), Arg::Words(key.clone()), Arg::Words(vec![0; s.ring]), Arg::Words(vec![0; s.ring])];
         let answer = egl_trgsw_blind_rotate(&set.p, &mut args);

@@ -1,7 +1,8 @@
 //! TRLWE: encryption of doubles and of bits, decryption, extraction, word for word against document 01's words and, where it is at hand, the original,
 //! whose product is exact here.
 
-use crate::case::{self, Arg, Kind, Routine, Set, Slot, Tally};
+use crate::case::{Arg, Kind, Routine, Set, Slot};
+use crate::compare::{self, Tally};
 use crate::exact;
 use crate::exact_words::{self, agreed};
 use crate::ffi::trlwe::*;
@@ -67,7 +68,7 @@ pub static ROUTINES: [Routine; 4] = [
 
 pub fn run(set: &Set, tally: &mut Tally) {
     for r in &ROUTINES {
-        case::run(tally, r, set, 60_000_000, 300);
+        compare::run(tally, r, set, 60_000_000, 300);
     }
     if set.p[1] == 2 {
         // document 01: extraction at 0 of [1,2,3,4], b[0] 5

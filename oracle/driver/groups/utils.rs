@@ -1,7 +1,8 @@
 //! Doubles to words and back: 3 million doubles against the original and against the word
 //! worked out from the double's bits; words there and back; the slice form. Also the version, which needs no group of its own.
 
-use crate::case::{Arg, Set, Tally};
+use crate::case::{Arg, Set};
+use crate::compare::Tally;
 use crate::exact;
 use crate::ffi::utils::*;
 use crate::source::Source;

@@ -5,13 +5,14 @@ use Prim.Native.Nat.{ℕ}
 use lib.ListN.{length}
 use Rattle.params.specs.Refusal.{answer}
 use Rattle.trgsw.proofs.Checks.{pair-done, pair-kept}
-use Rattle.blind_rotation.specs.Blind.{blindRotated, testPair}
+use Rattle.blind_rotation.specs.Blind.{blindRotated}
 use Rattle.blind_rotation.specs.Refusals.{blindNumber}
 use Rattle.blind_rotation.proofs.Checks.{blind-good}
 use borrow.Author.Needs.{needs}
 use Rattle.blind_rotation.proofs.blind_rotate.Statement.{statement}
 use Rattle.blind_rotation.proofs.blind_rotate.Tie as tie
 use Rattle.ring.specs.Pair.{Pair}
+use Rattle.key.specs.Testvec.{testPair}
 
 put-rotated-requires : tie.Need-put-rotated-requires
 put-rotated-requires c κs =

@@ -5,7 +5,7 @@ use Prim.Native.Nat.{_≤_}
 use native.Mathlib.Omega.{arith}
 use lib.ListN.{length}
 use Rattle.params.proofs.Ranges.{in-range, size-to}
-use Rattle.trgsw.proofs.Checks.{scratch}
+use Rattle.words.proofs.Scratch.{scratch}
 use borrow.Author.Needs.{needs}
 use Rattle.blind_rotation.proofs.put_rotated.Statement.{statement}
 use Rattle.blind_rotation.proofs.put_rotated.Tie as tie
@@ -18,18 +18,18 @@ array-borrow-prefix-ta : tie.Need-array-borrow-prefix-ta
 array-borrow-prefix-ta c = room (c .before .before .before .before)
 
 slice-aggregate-rotate-test : tie.Need-slice-aggregate-rotate-test
-slice-aggregate-rotate-test c = sym (scratch (length (c .before .before .before .before .before .args .a .now)) (room (c .before .before .before .before .before)))
+slice-aggregate-rotate-test c = sym (scratch 1024 (length (c .before .before .before .before .before .args .a .now)) (room (c .before .before .before .before .before)))
 
 array-borrow-prefix-tb : tie.Need-array-borrow-prefix-tb
 array-borrow-prefix-tb c = room (c .before .before .before .before .before)
 
 slice-aggregate-rotate-test-2 : tie.Need-slice-aggregate-rotate-test-2
-slice-aggregate-rotate-test-2 c = sym (scratch (length (c .before .before .before .before .before .before .args .a .now)) (room (c .before .before .before .before .before .before)))
+slice-aggregate-rotate-test-2 c = sym (scratch 1024 (length (c .before .before .before .before .before .before .args .a .now)) (room (c .before .before .before .before .before .before)))
 
 rotate-test-requires : tie.Need-rotate-test-requires
 rotate-test-requires c κs =
     let r = c .before .before .before .before .before .before .before .before .pre in
-    let w = scratch (length (c .before .before .before .before .before .before .before .before .args .a .now)) (room (c .before .before .before .before .before .before .before .before)) ∙ r .1 .2 in
+    let w = scratch 1024 (length (c .before .before .before .before .before .before .before .before .args .a .now)) (room (c .before .before .before .before .before .before .before .before)) ∙ r .1 .2 in
     (r .0, (r .1 .0, r .1 .1, w, w, r .1 .2, r .1 .3))
 
 returns : tie.Need-returns

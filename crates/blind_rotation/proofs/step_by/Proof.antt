@@ -1,17 +1,11 @@
 -- `blind_rotation::step_by` meets its contract: the callees refuse nothing; the turned pair less the pair, times the rows, is added to the pair.
 -- Assumes nothing.
-use mathlib.Core.Path.{sym, _∙_}
+use mathlib.Core.Path.{_∙_}
 use Rattle.rotation.proofs.Rotate.{rotate-written}
 use Rattle.blind_rotation.proofs.Steps.{pair, turned-less, step-made}
 use borrow.Author.Needs.{needs}
 use Rattle.blind_rotation.proofs.step_by.Statement.{statement}
 use Rattle.blind_rotation.proofs.step_by.Tie as tie
-
-subtract-requires : tie.Need-subtract-requires
-subtract-requires c κs = let r = c .before .before .before .before .before .before .before .before .before .before .before .before .before .before .before .before .before .pre .1 in r .4 ∙ sym (c .before .before .before .before .before .before .before .before .before .poly-mul-with-x-k .kept .1 .1 .1 .0 ∙ r .2)
-
-subtract-requires-2 : tie.Need-subtract-requires-2
-subtract-requires-2 c κs = let r = c .before .before .before .before .before .before .before .before .before .before .before .before .before .before .before .before .before .before .before .before .before .before .pre .1 in r .5 ∙ sym (c .before .before .before .before .before .before .before .before .before .poly-mul-with-x-k2 .kept .1 .1 .1 .0 ∙ r .3)
 
 returns : tie.Need-returns
 returns c =
@@ -27,5 +21,5 @@ returns c =
 pub step-by-spec : {M : Type 1} → statement M
 step-by-spec =
     tie.close
-    (tie.spec (λ c κs. tt) (λ c κs. tt) subtract-requires subtract-requires-2 (λ c κs. tt) (λ c. search needs) (λ c. search needs) (λ c. search needs)
+    (tie.spec (λ c κs. tt) (λ c κs. tt) (λ c κs. tt) (λ c κs. tt) (λ c κs. tt) (λ c. search needs) (λ c. search needs) (λ c. search needs)
     (λ c. search needs) returns)

@@ -1,6 +1,6 @@
 -- `bootstrapping::encrypt_torus` meets its contract: it goes by the refusal.
 -- Assumes nothing.
-use mathlib.Core.Path.{_≡_, sym, ap, _∙_}
+use mathlib.Core.Path.{sym, ap, _∙_}
 use borrow.Author.Needs.{needs}
 use lib.ListN.{length}
 use Rattle.params.specs.Refusal.{answer}

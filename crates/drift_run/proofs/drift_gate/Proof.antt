@@ -8,7 +8,7 @@ use Rattle.ring.specs.Word.{Q, at}
 use Rattle.params.specs.declared.Answer.{Answer}
 use Rattle.params.proofs.Answers.{kept, done}
 use Rattle.params.proofs.Ranges.{in-range}
-use Rattle.drift_run.specs.declared.ways.Drifted.{Drifted}
+use Rattle.drift_run.specs.declared.by_way.Drifted.{Drifted}
 use Rattle.drift_run.specs.Refusals.{driftGateAnswer}
 use Rattle.drift_run.specs.Run.{gateInside, gateWorst, gateWiresAfter, gateDriftsAfter}
 use Rattle.drift_run.proofs.Checks.{gate-good}

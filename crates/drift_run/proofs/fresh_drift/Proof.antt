@@ -16,7 +16,7 @@ use Rattle.drift_run.proofs.fresh_drift.Statement.{statement}
 use Rattle.drift_run.proofs.fresh_drift.Tie as tie
 
 -- the call was not refused
-passed : (c : tie.Else1) → let a = c .before .before .before .before .before .before .args in keyedNumber (a .p) Zero (length (a .c .now)) (a .key .now) 0 ≡ 0
+passed : (c : tie.Else1) → let a = c .before .before .before .before .before .before .args in keyedNumber (a .p) Zero (length (a .c .now)) (a .key .now) ≡ 0
 passed c = sym (ap (λ (s : Answer). s .number) (c .before .before .before .phase-of .ensures .0)) ∙ c .if1 .left
 
 returns : tie.Need-returns

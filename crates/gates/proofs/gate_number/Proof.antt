@@ -1,91 +1,20 @@
--- `gates::gate_number` meets its contract: each return rewrites with the tests that led there.
+-- `gates::gate_number` meets its contract: its chain is that of the table.
 -- Assumes nothing.
-use mathlib.Core.Path.{_≡_, ap}
-use borrow.Author.Needs.{needs}
-use Prim.Native.Nat.{ℕ}
-use Rattle.params.specs.declared.Sizes.{Sizes}
-use Rattle.params.specs.Sizes.{sizesIn}
+use mathlib.Core.Path.{refl}
+use mathlib.Core.List.{[], _∷_}
+use Rattle.refusals.specs.Table.{is}
+use Rattle.refusals.proofs.Table.{chained}
 use Rattle.gates.specs.Refusals.{gateNumber}
-use Rattle.gates.proofs.Checks.{lengths-in, on-params, out-params, fits, unfit}
 use Rattle.gates.proofs.gate_number.Statement.{statement}
 use Rattle.gates.proofs.gate_number.Tie as tie
 
--- past the first test: the record of lengths
-lengths : (c : tie.Else1) → c .before .before .sizes-of .result ≡ sizesIn (c .before .before .before .args .p)
-lengths c = lengths-in _ (c .before .before .sizes-of .ensures) (c .if1 .left)
-
 returns : tie.Need-returns
 unfolding gateNumber
-returns c = simp (out-params _ (c .before .before .sizes-of .ensures) (c .if1 .taken))
-
-returns-2 : tie.Need-returns-2
-unfolding gateNumber
-returns-2 c =
-    let d = c .before .before in
-    simp (
-      on-params _ (d .before .before .sizes-of .ensures) (d .if1 .left),
-      unfit (c .if2 .taken) (ap (λ (s : Sizes). s .level0) (lengths d)),
-    )
-
-returns-3 : tie.Need-returns-3
-unfolding gateNumber
-returns-3 c =
-    let d = c .before .before .before .before in
-    simp (
-      on-params _ (d .before .before .sizes-of .ensures) (d .if1 .left),
-      fits (c .before .before .if2 .left) (ap (λ (s : Sizes). s .level0) (lengths d)),
-      unfit (c .if3 .taken) (ap (λ (s : Sizes). s .level0) (lengths d)),
-    )
-
-returns-4 : tie.Need-returns-4
-unfolding gateNumber
-returns-4 c =
-    let d = c .before .before .before .before .before .before in
-    simp (
-      on-params _ (d .before .before .sizes-of .ensures) (d .if1 .left),
-      fits (c .before .before .before .before .if2 .left) (ap (λ (s : Sizes). s .level0) (lengths d)),
-      fits (c .before .before .if3 .left) (ap (λ (s : Sizes). s .level0) (lengths d)),
-      unfit (c .if4 .taken) (ap (λ (s : Sizes). s .ksk) (lengths d)),
-    )
-
-returns-5 : tie.Need-returns-5
-unfolding gateNumber
-returns-5 c =
-    let d = c .before .before .before .before .before .before .before .before in
-    simp (
-      on-params _ (d .before .before .sizes-of .ensures) (d .if1 .left),
-      fits (c .before .before .before .before .before .before .if2 .left) (ap (λ (s : Sizes). s .level0) (lengths d)),
-      fits (c .before .before .before .before .if3 .left) (ap (λ (s : Sizes). s .level0) (lengths d)),
-      fits (c .before .before .if4 .left) (ap (λ (s : Sizes). s .ksk) (lengths d)),
-      unfit (c .if5 .taken) (ap (λ (s : Sizes). s .bsk) (lengths d)),
-    )
-
-returns-6 : tie.Need-returns-6
-unfolding gateNumber
-returns-6 c =
-    let d = c .before .before .before .before .before .before .before .before .before .before in
-    simp (
-      on-params _ (d .before .before .sizes-of .ensures) (d .if1 .left),
-      fits (c .before .before .before .before .before .before .before .before .if2 .left) (ap (λ (s : Sizes). s .level0) (lengths d)),
-      fits (c .before .before .before .before .before .before .if3 .left) (ap (λ (s : Sizes). s .level0) (lengths d)),
-      fits (c .before .before .before .before .if4 .left) (ap (λ (s : Sizes). s .ksk) (lengths d)),
-      fits (c .before .before .if5 .left) (ap (λ (s : Sizes). s .bsk) (lengths d)),
-      unfit (c .if6 .taken) (ap (λ (s : Sizes). s .level0) (lengths d)),
-    )
-
-returns-7 : tie.Need-returns-7
-unfolding gateNumber
-returns-7 c =
-    let d = c .before .before .before .before .before .before .before .before .before .before in
-    simp (
-      on-params _ (d .before .before .sizes-of .ensures) (d .if1 .left),
-      fits (c .before .before .before .before .before .before .before .before .if2 .left) (ap (λ (s : Sizes). s .level0) (lengths d)),
-      fits (c .before .before .before .before .before .before .if3 .left) (ap (λ (s : Sizes). s .level0) (lengths d)),
-      fits (c .before .before .before .before .if4 .left) (ap (λ (s : Sizes). s .ksk) (lengths d)),
-      fits (c .before .before .if5 .left) (ap (λ (s : Sizes). s .bsk) (lengths d)),
-      fits (c .if6 .left) (ap (λ (s : Sizes). s .level0) (lengths d)),
-    )
+returns c =
+    let a = c .before .before .before .before .before .before .args in
+    rw (c .is5 .ensures, c .before .is4 .ensures, c .before .before .is3 .ensures, c .before .before .before .is2 .ensures, c .before .before .before .before .is .ensures)
+    (chained (a .p) (λ s. is (a .la) (s .level0) 2 ∷ is (a .lb) (s .level0) 2 ∷ is (a .lk) (s .ksk) 2 ∷ is (a .ls) (s .bsk) 2 ∷ is (a .lo) (s .level0) 2 ∷ []) refl (c .before .before .before .before .before .sizes-of .ensures))
 
 pub gate-number-spec : {M : Type 1} → statement M
 gate-number-spec = tie.close
-    (tie.spec (λ c κs. search needs) returns returns-2 returns-3 returns-4 returns-5 returns-6 returns-7)
+    (tie.spec (λ c κs. tt) (λ c κs. tt) (λ c κs. tt) (λ c κs. tt) (λ c κs. tt) (λ c κs. tt) returns)

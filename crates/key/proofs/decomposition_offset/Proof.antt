@@ -3,11 +3,10 @@
 use mathlib.Core.Path.{_≡_, sym, ap, ap₂, _∙_}
 use Prim.Native.Nat.{ℕ}
 use Rattle.params.specs.declared.Answer.{Answer}
-use Rattle.params.specs.Ranges.{paramsNumber}
 use Rattle.params.proofs.Answers.{kept, done}
 use Rattle.params.proofs.Ranges.{in-range}
 use Rattle.key.specs.declared.Offset.{Offset}
-use Rattle.key.specs.Offset.{offset, offsetOut}
+use Rattle.key.specs.Offset.{offsetOut}
 use borrow.Author.Needs.{needs}
 use Rattle.key.proofs.decomposition_offset.Statement.{statement}
 use Rattle.key.proofs.decomposition_offset.Tie as tie

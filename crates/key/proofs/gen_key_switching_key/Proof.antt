@@ -1,6 +1,6 @@
 -- `key::gen_key_switching_key` meets its contract: it goes by the refusal.
 -- Assumes nothing.
-use mathlib.Core.Path.{_≡_, sym, ap, _∙_}
+use mathlib.Core.Path.{sym, ap, _∙_}
 use lib.ListN.{length}
 use Rattle.params.specs.Refusal.{answer}
 use Rattle.params.proofs.Answers.{kept, done}

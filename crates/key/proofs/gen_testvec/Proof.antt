@@ -1,6 +1,6 @@
 -- `key::gen_testvec` meets its contract: both slices are filled where nothing is refused, and have N words then.
 -- Assumes nothing.
-use mathlib.Core.Path.{_≡_, sym, ap, _∙_}
+use mathlib.Core.Path.{sym, ap, _∙_}
 use Prim.Native.Nat.{ℕ}
 use lib.ListN.{length}
 use Rattle.ring.specs.Sums.{tab}

@@ -3,7 +3,6 @@
 use mathlib.Core.Path.{_≡_, sym, ap₂, _∙_}
 use Prim.Native.Nat.{ℕ}
 use native.Mathlib.Omega.{arith}
-use Rattle.params.specs.declared.Answer.{Answer}
 use Rattle.params.specs.Refusal.{answer}
 use Rattle.params.specs.Sizes.{switchingWords}
 use Rattle.params.proofs.Answers.{kept, done}

@@ -1,14 +1,13 @@
 -- `key::switching_row` meets its contract: an index that is not refused has its row within the key.
 -- Assumes nothing.
-use mathlib.Core.Path.{_≡_, sym, ap, _∙_}
-use Prim.Native.Nat.{ℕ, _+_, _*_, _≤_}
-use native.Mathlib.Nat.{add-sub-cancel-left}
+use mathlib.Core.Path.{_≡_, sym, _∙_}
+use Prim.Native.Nat.{_+_, _*_, _≤_}
 use native.Mathlib.Omega.{arith}
-use lib.ListN.{length, take, drop}
-use Rattle.params.specs.Sizes.{size, base, switchingRows}
+use lib.ListN.{length}
+use Rattle.ring.proofs.Parts.{slice-part}
 use Rattle.params.proofs.Answers.{kept, done}
-use Rattle.params.proofs.Ranges.{sizes-small, size-to, base-to, t-to}
-use Rattle.key.specs.Switching.{rowIndex, rowPart, lookupNumber}
+use Rattle.params.proofs.Ranges.{size-to, base-to, t-to}
+use Rattle.key.specs.Switching.{rowIndex, rowPart}
 use Rattle.key.proofs.Checks.{LookupGood, lookup-good}
 use Rattle.key.proofs.Rows.{row-end, row-small}
 use borrow.Author.Needs.{needs}
@@ -56,7 +55,7 @@ part-result-end c = omega (arith, ends (c .before))
 returns-2 : tie.Need-returns-2
 unfolding rowPart
 returns-2 c =
-    done _ _ _ (sym (c .before .before .before .before .lookup-number .ensures) ∙ c .before .before .before .if1 .left) (rw (row (c .before .before), add-sub-cancel-left))
+    done _ _ _ (sym (c .before .before .before .before .lookup-number .ensures) ∙ c .before .before .before .if1 .left) (rw (row (c .before .before)) (slice-part _ _ _))
 
 pub switching-row-spec : {M : Type 1} → statement M
 switching-row-spec =

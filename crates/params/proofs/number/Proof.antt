@@ -5,7 +5,8 @@ use Prim.Native.Nat.{_*_, _≤_}
 use native.Mathlib.Nat.{mul-le-mul}
 use native.Mathlib.Omega.{arith}
 use borrow.Author.Tests.{le-leb, lt-leb}
-use Rattle.params.specs.Ranges.{paramsNumber, switchingNumber}
+use Rattle.params.specs.Ranges.{paramsNumber}
+use Rattle.params.specs.Private.{switchingNumber}
 use borrow.Author.Needs.{needs}
 use Rattle.params.proofs.number.Statement.{statement}
 use Rattle.params.proofs.number.Tie as tie
@@ -66,7 +67,7 @@ returns-8 c =
     simp (le-leb 1 (p .n) (c .before .before .before .before .before .before .before .before .before .before .before .before .before .before .before .if1 .left), le-leb (p .n) 1100 (c .before .before .before .before .before .before .before .before .before .before .before .before .before .if2 .left), le-leb 1 (p .nbit) (c .before .before .before .before .before .before .before .before .before .before .before .if3 .left), le-leb (p .nbit) 10 (c .before .before .before .before .before .before .before .before .before .if4 .left), le-leb 1 (p .bgbit) (c .before .before .before .before .before .before .before .if5 .left), le-leb (p .bgbit) 24 (c .before .before .before .before .before .if6 .left), le-leb 1 (p .l) (c .before .before .before .if7 .left), lt-leb (p .l * p .bgbit) 32 (omega arith))
 
 returns-9 : tie.Need-returns-9
-unfolding paramsNumber
+unfolding paramsNumber switchingNumber
 returns-9 c =
     let p = c .before .before .before .before .before .before .before .before .before .before .before .before .before .before .before .before .before .before .args .p in
     c .switching-number .ensures ∙ sym (simp (le-leb 1 (p .n) (c .before .before .before .before .before .before .before .before .before .before .before .before .before .before .before .before .if1 .left), le-leb (p .n) 1100 (c .before .before .before .before .before .before .before .before .before .before .before .before .before .before .if2 .left), le-leb 1 (p .nbit) (c .before .before .before .before .before .before .before .before .before .before .before .before .if3 .left), le-leb (p .nbit) 10 (c .before .before .before .before .before .before .before .before .before .before .if4 .left), le-leb 1 (p .bgbit) (c .before .before .before .before .before .before .before .before .if5 .left), le-leb (p .bgbit) 24 (c .before .before .before .before .before .before .if6 .left), le-leb 1 (p .l) (c .before .before .before .before .if7 .left), le-leb (p .l * p .bgbit) 32 (omega arith)))

@@ -1,11 +1,11 @@
 -- `params::switching_number` meets its contract: each return rewrites with the tests that led there, and a product of two u32 fits 64 bits.
 -- Assumes nothing.
-use mathlib.Core.Path.{_∙_, sym}
+use mathlib.Core.Path.{_∙_}
 use Prim.Native.Nat.{_*_, _≤_}
 use native.Mathlib.Nat.{mul-le-mul}
 use native.Mathlib.Omega.{arith}
 use borrow.Author.Tests.{le-leb, lt-leb}
-use Rattle.params.specs.Ranges.{paramsNumber, switchingNumber}
+use Rattle.params.specs.Private.{switchingNumber}
 use borrow.Author.Needs.{needs}
 use Rattle.params.proofs.switching_number.Statement.{statement}
 use Rattle.params.proofs.switching_number.Tie as tie

@@ -10,9 +10,9 @@ use lib.ListN.{length, drop, length-set}
 use Rattle.ring.specs.Word.{Q, at}
 use Rattle.ring.specs.Sums.{tab}
 use Rattle.ring.proofs.Tab.{tab-none, tab-read, tab-more, tab-done}
-use Rattle.ring.specs.Loop.{addBy}
 use Rattle.product.proofs.add_row.Statement.{statement}
 use Rattle.product.proofs.add_row.Tie as tie
+use Rattle.ring.specs.Private.{addBy}
 
 abbrev Inv-loop : tie.InvT-loop
 Inv-loop x window out₀ factor k₀ out k = (k ≤ length out₀) × (length out ≡ length out₀) × (out ≡ tab k (λ j. (at out₀ j + x * at window j) % Q) ++ drop k out₀)

@@ -6,12 +6,13 @@ use native.Mathlib.Omega.{arith}
 use denote.Ref.{now}
 use lib.ListN.{length}
 use Rattle.ring.specs.Word.{Q, at}
-use Rattle.ring.specs.Loop.{accTo}
 use Rattle.ring.proofs.Tab.{tab-of}
 use Rattle.ring.proofs.Loop.{acc-none, acc-more, acc-done}
-use Rattle.product.proofs.Laws.{part-length, row-term}
+use Rattle.ring.proofs.Parts.{slice-length}
+use Rattle.product.proofs.Laws.{row-term}
 use Rattle.product.proofs.add_rows.Statement.{statement}
 use Rattle.product.proofs.add_rows.Tie as tie
+use Rattle.ring.specs.Private.{accTo}
 
 abbrev Inv-loop : tie.InvT-loop
 Inv-loop a twice out₀ n j₀ out j = (j ≤ length out₀) × (length out ≡ length out₀) × (out ≡ accTo (length out₀) (at out₀) (λ k j. at a (length out₀ - suc j) * at twice (suc j + k)) j)
@@ -30,7 +31,7 @@ add-row-requires : tie.Need-add-row-requires Inv-loop μ-loop
 add-row-requires c κs =
     let g = c .before .before .before .before .before .before .before .before .args in
     let l = c .before .before .before .before .loop in
-    part-length (now (g .twice)) (l .j + 1) (length (now (g .out))) (omega arith) ∙ sym (l .inv .1)
+    slice-length (now (g .twice)) (l .j + 1) (length (now (g .out))) (omega arith) ∙ sym (l .inv .1)
 
 loop-again : tie.Need-loop-again Inv-loop μ-loop
 loop-again c =

@@ -8,7 +8,7 @@ use denote.Ref.{now}
 use lib.ListN.{length, drop, length-set}
 use Rattle.ring.specs.Sums.{tab}
 use Rattle.ring.proofs.Tab.{tab-none, tab-more, tab-done}
-use Rattle.product.specs.Product.{doubledAt, doubled}
+use Rattle.product.specs.Private.{doubledAt, doubled}
 use Rattle.product.proofs.double_into.Statement.{statement}
 use Rattle.product.proofs.double_into.Tie as tie
 

@@ -1,58 +1,19 @@
--- `product::product_number` meets its contract: each return rewrites with the tests that led there.
+-- `product::product_number` meets its contract: its chain is that of the table.
 -- Assumes nothing.
-use mathlib.Core.Path.{sym, _∙_}
-use borrow.Author.Needs.{needs}
-use borrow.Author.Tests.{eq-eqb, ne-eqb}
-use Rattle.params.specs.Ranges.{paramsNumber}
-use Rattle.params.specs.Sizes.{size}
+use mathlib.Core.Path.{refl}
+use mathlib.Core.List.{[], _∷_}
+use Rattle.refusals.proofs.Table.{chained}
+use Rattle.refusals.specs.Table.{is}
 use Rattle.product.specs.Product.{productNumber}
-use Rattle.product.proofs.Laws.{range-refused, range-passed, size-passed}
 use Rattle.product.proofs.product_number.Statement.{statement}
 use Rattle.product.proofs.product_number.Tie as tie
 
 returns : tie.Need-returns
 unfolding productNumber
 returns c =
-    let p = c .before .before .before .args .p in
-    simp (ne-eqb (paramsNumber p) 0 (range-refused p (c .before .before .sizes-of .ensures) (c .if1 .taken)))
-
-returns-2 : tie.Need-returns-2
-unfolding productNumber
-returns-2 c =
-    let a = c .before .before .before .before .before .args in
-    let e = c .before .before .before .before .sizes-of .ensures in
-    let z = c .before .before .if1 .left in
-    let s = size-passed (a .p) e z in
-    simp (eq-eqb (paramsNumber (a .p)) 0 (range-passed (a .p) e z), ne-eqb (a .la) (size (a .p)) (λ q. c .if2 .taken (q ∙ sym s)))
-
-returns-3 : tie.Need-returns-3
-unfolding productNumber
-returns-3 c =
-    let a = c .before .before .before .before .before .before .before .args in
-    let e = c .before .before .before .before .before .before .sizes-of .ensures in
-    let z = c .before .before .before .before .if1 .left in
-    let s = size-passed (a .p) e z in
-    simp (eq-eqb (paramsNumber (a .p)) 0 (range-passed (a .p) e z), eq-eqb (a .la) (size (a .p)) (c .before .before .if2 .left ∙ s), ne-eqb (a .lb) (size (a .p)) (λ q. c .if3 .taken (q ∙ sym s)))
-
-returns-4 : tie.Need-returns-4
-unfolding productNumber
-returns-4 c =
-    let a = c .before .before .before .before .before .before .before .before .before .args in
-    let e = c .before .before .before .before .before .before .before .before .sizes-of .ensures in
-    let z = c .before .before .before .before .before .before .if1 .left in
-    let s = size-passed (a .p) e z in
-    simp (eq-eqb (paramsNumber (a .p)) 0 (range-passed (a .p) e z), eq-eqb (a .la) (size (a .p)) (c .before .before .before .before .if2 .left ∙ s), eq-eqb (a .lb) (size (a .p)) (c .before .before .if3 .left ∙ s), ne-eqb (a .lo) (size (a .p)) (λ q. c .if4 .taken (q ∙ sym s)))
-
-returns-5 : tie.Need-returns-5
-unfolding productNumber
-returns-5 c =
-    let a = c .before .before .before .before .before .before .before .before .before .args in
-    let e = c .before .before .before .before .before .before .before .before .sizes-of .ensures in
-    let z = c .before .before .before .before .before .before .if1 .left in
-    let s = size-passed (a .p) e z in
-    simp (eq-eqb (paramsNumber (a .p)) 0 (range-passed (a .p) e z), eq-eqb (a .la) (size (a .p)) (c .before .before .before .before .if2 .left ∙ s), eq-eqb (a .lb) (size (a .p)) (c .before .before .if3 .left ∙ s), eq-eqb (a .lo) (size (a .p)) (c .if4 .left ∙ s))
+    let a = c .before .before .before .before .args in
+    rw (c .is3 .ensures, c .before .is2 .ensures, c .before .before .is .ensures)
+    (chained (a .p) (λ s. is (a .la) (s .size) 2 ∷ is (a .lb) (s .size) 2 ∷ is (a .lo) (s .size) 2 ∷ []) refl (c .before .before .before .sizes-of .ensures))
 
 pub product-number-spec : {M : Type 1} → statement M
-product-number-spec =
-    tie.close
-    (tie.spec (λ c κs. search needs) returns returns-2 returns-3 returns-4 returns-5)
+product-number-spec = tie.close (tie.spec (λ c κs. tt) (λ c κs. tt) (λ c κs. tt) (λ c κs. tt) returns)

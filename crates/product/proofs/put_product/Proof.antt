@@ -11,7 +11,7 @@ use Rattle.product.proofs.put_product.Tie as tie
 returns : tie.Need-returns
 returns c =
     let g = c .before .before .before .before .before .before .before .before .before .before .before .args in
-    product-put (length (now (g .out))) (now (g .a)) (now (g .b)) (omega arith) (c .before .before .before .before .before .before .clear .ensures) (c .before .before .add-product .ensures)
+    product-put (length (now (g .out))) (now (g .a)) (now (g .b)) (omega arith) (c .before .before .before .before .before .before .fill .ensures) (c .before .before .add-product .ensures)
 
 pub put-product-spec : {M : Type 1} → statement M
 put-product-spec = tie.close

@@ -9,7 +9,7 @@ use lib.Seq.{length-take-le}
 use denote.Ref.{now}
 use borrow.Author.Needs.{needs}
 use Rattle.params.specs.Refusal.{answer}
-use Rattle.report.specs.Splice.{splice}
+use Rattle.report.specs.Private.{splice}
 use Rattle.report.specs.Text.{textOf, described}
 use Rattle.report.proofs.Spliced.{splice-front}
 use Rattle.report.proofs.Texts.{answer-short, answer-fits, out-short, out-fits, front-text}

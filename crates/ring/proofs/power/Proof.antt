@@ -1,6 +1,6 @@
 -- `ring::power` meets its contract: below 32 the shift is the power, and from 32 on the power is a multiple of 2^32.
 -- Assumes nothing.
-use mathlib.Core.Path.{_∙_, sym, ap}
+use mathlib.Core.Path.{_∙_, ap}
 use Prim.Native.Nat.{ℕ, _%_, _^_, _*_, _-_}
 use native.Mathlib.Nat.{one-mul}
 use Rattle.ring.specs.Word.{Q}

@@ -1,29 +1,32 @@
 -- `rotation::body_steps` meets its contract: in 64 bits nothing wraps, and the steps are at most 2N.
 -- Assumes nothing.
-use mathlib.Core.Path.{_≡_, sym, ap, ap₂, _∙_}
+use mathlib.Core.Path.{_≡_, ap, ap₂, _∙_}
 use Prim.Native.Nat.{ℕ, _+_, _-_, _/_, _^_, _≤_, _<_}
 use lib.Pow.{pow-pos}
 use Rattle.params.specs.Sizes.{size}
 use Rattle.ring.specs.Word.{Q}
 use Rattle.rotation.specs.Amount.{half, step, bodyAmount}
-use Rattle.rotation.proofs.Amounts.{turn-is, body-steps-to}
+use Rattle.rotation.proofs.Amounts.{half-power, step-power, turn-power, body-steps-to}
 use borrow.Author.Needs.{needs}
 use Rattle.rotation.proofs.body_steps.Statement.{statement}
 use Rattle.rotation.proofs.body_steps.Tie as tie
 
-div-steps : tie.Need-div-steps
-div-steps c = rw (c .before .before .before .two-to2 .ensures) (pow-pos _)
+-- a step, the steps and 2N, as the definition has them
+stepped : (c : tie.After-body-sum) → c .before .before .before .power2 .result ≡ step (c .before .before .before .before .before .before .before .args .p)
+stepped c = let d = c .before .before .before .before .before .before .before in c .before .before .before .power2 .ensures ∙ step-power (d .args .p) (d .pre)
 
--- the steps and 2N, as the definition has them
 steps : (c : tie.After-body-sum) → let a = c .before .before .before .before .before .before .before .args in
-    c .body-sum .result / c .before .before .before .two-to2 .result ≡ (a .b + half (a .p)) / step (a .p)
-unfolding half step
+    c .body-sum .result / c .before .before .before .power2 .result ≡ (a .b + half (a .p)) / step (a .p)
 steps c =
-    let a = c .before .before .before .before .before .before .before .args in
-    ap₂ (λ (n s : ℕ). n / s) (c .body-sum .ensures ∙ ap (λ (h : ℕ). a .b + h) (c .before .before .before .before .before .two-to .ensures)) (c .before .before .before .two-to2 .ensures)
+    let d = c .before .before .before .before .before .before .before in
+    ap₂ (λ (n s : ℕ). n / s) (c .body-sum .ensures ∙ ap (λ (h : ℕ). d .args .b + h) (c .before .before .before .before .before .power .ensures ∙ half-power (d .args .p) (d .pre))) (stepped c)
 
-turn : (c : tie.After-body-sum) → let p = c .before .before .before .before .before .before .before .args .p in c .before .two-to3 .result ≡ size p + size p
-turn c = let d = c .before .before .before .before .before .before .before in c .before .two-to3 .ensures ∙ turn-is (d .args .p) (d .pre)
+turn : (c : tie.After-body-sum) → let p = c .before .before .before .before .before .before .before .args .p in c .before .power3 .result ≡ size p + size p
+turn c = let d = c .before .before .before .before .before .before .before in c .before .power3 .ensures ∙ turn-power (d .args .p) (d .pre)
+
+div-steps : tie.Need-div-steps
+unfolding step
+div-steps c = rw (stepped c) (pow-pos _)
 
 sub-result : tie.Need-sub-result
 unfolding Q

@@ -6,7 +6,7 @@ use lib.ListN.{length}
 use Rattle.params.specs.Refusal.{answer}
 use Rattle.params.proofs.Answers.{kept, done}
 use Rattle.ring.specs.Turn.{rotated}
-use Rattle.rotation.specs.Rotate.{RotateGood}
+use Rattle.rotation.specs.Private.{RotateGood}
 use Rattle.rotation.proofs.Rotate.{rotate-good}
 use borrow.Author.Needs.{needs}
 use Rattle.rotation.proofs.poly_mul_with_x_k.Statement.{statement}

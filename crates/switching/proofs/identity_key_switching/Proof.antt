@@ -1,10 +1,10 @@
 -- `switching::identity_key_switching` meets its contract: it goes by the refusal.
 -- Assumes nothing.
-use mathlib.Core.Path.{_≡_, sym, ap, _∙_}
+use mathlib.Core.Path.{sym, ap, _∙_}
 use lib.ListN.{length}
 use Rattle.params.specs.Refusal.{answer}
 use Rattle.params.proofs.Answers.{kept, done}
-use Rattle.switching.specs.Switched.{SwitchGood}
+use Rattle.switching.specs.Private.{SwitchGood}
 use Rattle.switching.proofs.Checks.{switch-good}
 use borrow.Author.Needs.{needs}
 use Rattle.switching.proofs.identity_key_switching.Statement.{statement}

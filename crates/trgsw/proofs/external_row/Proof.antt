@@ -4,7 +4,8 @@ use mathlib.Core.Path.{_∙_}
 use Prim.Native.Nat.{_+_, _*_, _-_, _≤_}
 use native.Mathlib.Omega.{arith}
 use lib.ListN.{length}
-use Rattle.decomposition.proofs.Flat.{length-pair, part-length}
+use Rattle.ring.proofs.Parts.{slice-length as part-length}
+use Rattle.decomposition.proofs.Flat.{length-pair}
 use Rattle.trgsw.proofs.Checks.{row-fits, half-a, half-b, digits-put, product-added}
 use borrow.Author.Needs.{needs}
 use Rattle.trgsw.proofs.external_row.Statement.{statement}

@@ -1,13 +1,12 @@
--- `trlwe::decrypt_number` meets its contract: each return rewrites with the tests that led there.
+-- `trlwe::decrypt_number` meets its contract: its chain is that of the table.
 -- Assumes nothing.
-use borrow.Author.Needs.{needs}
-use borrow.Author.Tests.{eq-eqb, ne-eqb}
-use Rattle.params.specs.Ranges.{paramsNumber}
-use Rattle.params.specs.Sizes.{size}
-use Rattle.product.proofs.Laws.{range-refused, range-passed, size-passed}
-use mathlib.Core.Path.{_∙_, sym}
+use mathlib.Core.Path.{refl}
+use mathlib.Core.List.{[], _∷_}
 use denote.Ref.{now}
 use lib.ListN.{length}
+use Rattle.tlwe.specs.Key.{binary}
+use Rattle.refusals.specs.Table.{is, holds}
+use Rattle.refusals.proofs.Table.{chained}
 use Rattle.trlwe.specs.Decrypt.{decryptPairNumber}
 use Rattle.trlwe.proofs.decrypt_number.Statement.{statement}
 use Rattle.trlwe.proofs.decrypt_number.Tie as tie
@@ -15,54 +14,9 @@ use Rattle.trlwe.proofs.decrypt_number.Tie as tie
 returns : tie.Need-returns
 unfolding decryptPairNumber
 returns c =
-    let p = c .before .before .before .before .args .p in
-    simp (ne-eqb (paramsNumber p) 0 (range-refused p (c .before .before .sizes-of .ensures) (c .if1 .taken)))
-
-returns-2 : tie.Need-returns-2
-unfolding decryptPairNumber
-returns-2 c =
-    let a = c .before .before .before .before .before .before .args in
-    let e = c .before .before .before .before .sizes-of .ensures in
-    let z = c .before .before .if1 .left in
-    let s = size-passed (a .p) e z in
-    simp (eq-eqb (paramsNumber (a .p)) 0 (range-passed (a .p) e z), ne-eqb (a .la) (size (a .p)) (λ q. c .if2 .taken (q ∙ sym s)))
-
-returns-3 : tie.Need-returns-3
-unfolding decryptPairNumber
-returns-3 c =
     let a = c .before .before .before .before .before .before .before .before .args in
-    let e = c .before .before .before .before .before .before .sizes-of .ensures in
-    let z = c .before .before .before .before .if1 .left in
-    let s = size-passed (a .p) e z in
-    simp (eq-eqb (paramsNumber (a .p)) 0 (range-passed (a .p) e z), eq-eqb (a .la) (size (a .p)) (c .before .before .if2 .left ∙ s), ne-eqb (a .lb) (size (a .p)) (λ q. c .if3 .taken (q ∙ sym s)))
-
-returns-4 : tie.Need-returns-4
-unfolding decryptPairNumber
-returns-4 c =
-    let a = c .before .before .before .before .before .before .before .before .before .before .args in
-    let e = c .before .before .before .before .before .before .before .before .sizes-of .ensures in
-    let z = c .before .before .before .before .before .before .if1 .left in
-    let s = size-passed (a .p) e z in
-    simp (eq-eqb (paramsNumber (a .p)) 0 (range-passed (a .p) e z), eq-eqb (a .la) (size (a .p)) (c .before .before .before .before .if2 .left ∙ s), eq-eqb (a .lb) (size (a .p)) (c .before .before .if3 .left ∙ s), ne-eqb (length (now (a .key))) (size (a .p)) (λ q. c .if4 .taken (q ∙ sym s)))
-
-returns-5 : tie.Need-returns-5
-unfolding decryptPairNumber
-returns-5 c =
-    let a = c .before .before .before .before .before .before .before .before .before .before .before .before .args in
-    let e = c .before .before .before .before .before .before .before .before .before .before .sizes-of .ensures in
-    let z = c .before .before .before .before .before .before .before .before .if1 .left in
-    let s = size-passed (a .p) e z in
-    simp (eq-eqb (paramsNumber (a .p)) 0 (range-passed (a .p) e z), eq-eqb (a .la) (size (a .p)) (c .before .before .before .before .before .before .if2 .left ∙ s), eq-eqb (a .lb) (size (a .p)) (c .before .before .before .before .if3 .left ∙ s), eq-eqb (length (now (a .key))) (size (a .p)) (c .before .before .if4 .left ∙ s), ne-eqb (a .lo) (size (a .p)) (λ q. c .if5 .taken (q ∙ sym s)))
-
-returns-6 : tie.Need-returns-6
-unfolding decryptPairNumber
-returns-6 c =
-    let a = c .before .before .before .before .before .before .before .before .before .before .before .before .before .args in
-    let e = c .before .before .before .before .before .before .before .before .before .before .before .sizes-of .ensures in
-    let z = c .before .before .before .before .before .before .before .before .before .if1 .left in
-    let s = size-passed (a .p) e z in
-    c .key-number .ensures ∙ sym (simp (eq-eqb (paramsNumber (a .p)) 0 (range-passed (a .p) e z), eq-eqb (a .la) (size (a .p)) (c .before .before .before .before .before .before .before .if2 .left ∙ s), eq-eqb (a .lb) (size (a .p)) (c .before .before .before .before .before .if3 .left ∙ s), eq-eqb (length (now (a .key))) (size (a .p)) (c .before .before .before .if4 .left ∙ s), eq-eqb (a .lo) (size (a .p)) (c .before .if5 .left ∙ s)))
+    rw (c .also .ensures, c .before .is-binary .ensures, c .before .before .is4 .ensures, c .before .before .before .is3 .ensures, c .before .before .before .before .is2 .ensures, c .before .before .before .before .before .is .ensures)
+    (chained (a .p) (λ s. is (a .la) (s .size) 2 ∷ is (a .lb) (s .size) 2 ∷ is (length (now (a .key))) (s .size) 2 ∷ is (a .lo) (s .size) 2 ∷ holds (binary (now (a .key))) 4 ∷ []) refl (c .before .before .before .before .before .before .sizes-of .ensures))
 
 pub decrypt-number-spec : {M : Type 1} → statement M
-decrypt-number-spec = tie.close
-    (tie.spec (λ c κs. search needs) returns returns-2 returns-3 returns-4 returns-5 (λ c κs. search needs) returns-6)
+decrypt-number-spec = tie.close (tie.spec (λ c κs. tt) (λ c κs. tt) (λ c κs. tt) (λ c κs. tt) (λ c κs. tt) (λ c κs. tt) (λ c κs. tt) returns)

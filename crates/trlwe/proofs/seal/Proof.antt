@@ -2,6 +2,7 @@
 -- Assumes nothing.
 use borrow.Author.Needs.{needs}
 use denote.Ref.{now}
+use Rattle.words.proofs.Loops.{copy-whole}
 use Rattle.trlwe.proofs.Pairs.{sealed}
 use Rattle.trlwe.proofs.seal.Statement.{statement}
 use Rattle.trlwe.proofs.seal.Tie as tie
@@ -10,7 +11,7 @@ returns : tie.Need-returns
 returns c =
     let g = c .before .before .before .before .before .before .before .before .before .before .before .before .before .before .before .before .before .args in
     let w = c .before .before .before .before .before .before .before .before .before .before .before .before .before .before .before .before .before .pre in
-    (c .before .before .before .before .before .before .before .before .before .before .copy-into .ensures, sealed (g .p) (w .0) (now (g .masks)) (now (g .noise)) (now (g .key)) (now (g .b)) (w .1) (w .3) (w .5) (c .before .before .before .before .before .before .add-into .ensures) (c .before .before .poly-mul-add .ensures .1))
+    (copy-whole (now (g .masks)) (now (g .a)) (w .1) (w .4) (c .before .before .before .before .before .before .before .before .before .before .copy .ensures), sealed (g .p) (w .0) (now (g .masks)) (now (g .noise)) (now (g .key)) (now (g .b)) (w .1) (w .3) (w .5) (c .before .before .before .before .before .before .add .ensures) (c .before .before .poly-mul-add .ensures .1))
 
 pub seal-spec : {M : Type 1} → statement M
 seal-spec =

@@ -9,7 +9,8 @@ use native.Mathlib.Omega.{arith}
 use lib.Dec.{T}
 use lib.Ieee.{neg, ofBits}
 use Rattle.ring.specs.Word.{Q}
-use Rattle.utils.specs.Torus.{word, signed}
+use Rattle.utils.specs.Torus.{word}
+use Rattle.utils.proofs.Laws.{signed, signed-negative}
 use Rattle.utils.proofs.Cut.{Cuts, undefined, negative, nonnegative}
 use Rattle.utils.proofs.f64_to_torus.Statement.{statement}
 use Rattle.utils.proofs.f64_to_torus.Tie as tie
@@ -61,7 +62,7 @@ unfolding Q
 cast-v c = omega (arith, cut-2 c .0)
 
 returns-2 : tie.Need-returns-2
-returns-2 c = c .sub .ensures ∙ ap (λ (n : ℕ). n % Q) (zero-add _) ∙ sym (cut (c .before) .1)
+returns-2 c = c .sub .ensures ∙ ap (λ (n : ℕ). n % Q) (zero-add _) ∙ sym (cut (c .before) .1 ∙ signed-negative _)
 
 returns-3 : tie.Need-returns-3
 unfolding Q

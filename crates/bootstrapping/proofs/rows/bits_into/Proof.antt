@@ -7,10 +7,10 @@ use native.Mathlib.Omega.{arith}
 use borrow.Author.Needs.{needs}
 use lib.ListN.{length, drop}
 use Rattle.params.specs.declared.Params.{Params}
-use Rattle.params.specs.Sizes.{size, bitWords}
+use Rattle.params.specs.Sizes.{bitWords}
 use Rattle.params.proofs.Ranges.{l-to}
-use Rattle.key.proofs.Rows.{part-length}
-use Rattle.key.proofs.Joins.{joined-none, joined-more, joined-done}
+use Rattle.ring.proofs.Parts.{slice-length}
+use Rattle.ring.proofs.Joins.{joined-none, joined-more, joined-done}
 use Rattle.bootstrapping.specs.Rows.{bitDraws, keyBit, bootstrappingKey}
 use Rattle.bootstrapping.proofs.Parts.{fits, twice-draws, draws-small, bit-drawn}
 use Rattle.bootstrapping.proofs.rows.bits_into.Statement.{statement}
@@ -107,10 +107,10 @@ rows-into-requires c κs =
     let s = c .before .before .before .before .before .before .before .before .before .before .before .before in
     let h = s .pre in (
       h .0,
-      part-length (s .args .masks .now) _ _ (masks-fit (c .before .before .before .before)) ∙ drawn s,
-      part-length (s .args .noise .now) _ _ (noise-fit (c .before .before .before .before)) ∙ drawn s,
+      slice-length (s .args .masks .now) _ _ (masks-fit (c .before .before .before .before)) ∙ drawn s,
+      slice-length (s .args .noise .now) _ _ (noise-fit (c .before .before .before .before)) ∙ drawn s,
       h .2,
-      part-length (c .before .before .before .before .before .loop .out) _ _ (out-fit (c .before .before .before .before)) ∙ wide s,
+      slice-length (c .before .before .before .before .before .loop .out) _ _ (out-fit (c .before .before .before .before)) ∙ wide s,
     )
 
 add-i : tie.Need-add-i Inv-loop μ-loop
@@ -127,7 +127,7 @@ loop-again c =
     let l = c .before .before .before .before .before .before .before .before .loop in
     let h = c .before .before .before .before .before .before .before .loop-test .taken in
     let row = c .before .before .rows-into .last .1 .1 .1 .1 .1 .0 in
-    let long = c .before .out .given .0 ∙ part-length (l .out) _ _ (out-fit (c .before .before .before .before .before .before .before)) in
+    let long = c .before .out .given .0 ∙ slice-length (l .out) _ _ (out-fit (c .before .before .before .before .before .before .before)) in
     let made = bit-drawn (g .p) (g .key-lv1 .now) (g .masks .now) (g .noise .now) (g .key-lv0 .now) (l .i) w (drawn s) (c .before .before .rows-into .ensures) in
     let e = joined-more (w + w) (keyBit (g .p) (g .key-lv0 .now) (g .key-lv1 .now) (g .masks .now) (g .noise .now)) (g .out .now) (l .i) (l .inv .2) (l .inv .3) row made long in
     (omega arith, c .before .out .given .1 ∙ l .inv .1, e .0, e .1)

@@ -2,12 +2,13 @@
 -- Assumes nothing.
 use native.Mathlib.Omega.{arith}
 use borrow.Author.Needs.{needs}
+use Rattle.params.proofs.Ranges.{size-from}
 use Rattle.bootstrapping.proofs.Parts.{body-made}
 use Rattle.bootstrapping.proofs.rows.body_into.Statement.{statement}
 use Rattle.bootstrapping.proofs.rows.body_into.Tie as tie
 
 put-requires : tie.Need-put-requires
-put-requires c κs = let h = c .before .before .before .before .before .pre in omega (arith, h .1, h .2, h .4)
+put-requires c κs = let s = c .before .before .before .before .before in let h = s .pre in (omega (arith, h .2, h .4), omega (arith, h .4, size-from (s .args .p)))
 
 returns : tie.Need-returns
 returns c =

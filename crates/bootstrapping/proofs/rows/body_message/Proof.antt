@@ -1,7 +1,7 @@
 -- `bootstrapping::rows::body_message` meets its contract: by the test.
 -- Assumes nothing.
-use mathlib.Core.Path.{_≡_, _∙_}
-use Prim.Native.Nat.{_-_, _≤_, _<_}
+use mathlib.Core.Path.{_∙_}
+use Prim.Native.Nat.{_-_}
 use native.Mathlib.Omega.{arith}
 use Rattle.bootstrapping.proofs.Parts.{body-low, body-high, shift-in}
 use Rattle.bootstrapping.proofs.rows.body_message.Statement.{statement}

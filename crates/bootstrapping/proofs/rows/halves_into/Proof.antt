@@ -2,14 +2,15 @@
 -- Assumes nothing.
 use mathlib.Core.Path.{_≡_, sym, ap, ap₂, _∙_}
 use mathlib.Core.List.{List, [], _∷_, _++_}
-use Prim.Native.Nat.{ℕ, _+_, _-_, _≤_}
+use Prim.Native.Nat.{ℕ, _+_, _-_}
 use native.Mathlib.Omega.{arith}
 use borrow.Author.Needs.{needs}
 use lib.ListN.{length, take}
 use lib.Seq.{length-take-le}
 use Rattle.ring.specs.Poly.{plus}
 use Rattle.params.specs.Sizes.{size}
-use Rattle.product.proofs.Uses.{length-plus}
+use Rattle.params.proofs.Ranges.{size-from}
+use Rattle.ring.proofs.Places.{length-plus}
 use Rattle.bootstrapping.proofs.Parts.{back-half, both-halves}
 use Rattle.bootstrapping.proofs.rows.halves_into.Statement.{statement}
 use Rattle.bootstrapping.proofs.rows.halves_into.Tie as tie
@@ -38,7 +39,7 @@ slice-aggregate-put : tie.Need-slice-aggregate-put
 slice-aggregate-put c = sym (half (c .before .before .before .before .before))
 
 put-requires : tie.Need-put-requires
-put-requires c κs = sym (half (c .before .before .before .before .before))
+put-requires c κs = let s = c .before .before .before .before .before in (sym (half s), omega (arith, half s, s .pre .1, size-from (s .args .p)))
 
 part-body-into-end : tie.Need-part-body-into-end
 part-body-into-end c = let s = c .before .before .before .before .before .before .before .before in omega (arith, c .before .out .given, two s)

@@ -1,7 +1,6 @@
 -- `bootstrapping::rows::mask_message` meets its contract: by the test.
 -- Assumes nothing.
-use mathlib.Core.Path.{_≡_, _∙_}
-use Prim.Native.Nat.{_≤_, _<_}
+use mathlib.Core.Path.{_∙_}
 use native.Mathlib.Omega.{arith}
 use Rattle.bootstrapping.proofs.Parts.{mask-low, mask-high, shift-in}
 use Rattle.bootstrapping.proofs.rows.mask_message.Statement.{statement}

@@ -1,15 +1,15 @@
 -- `bootstrapping::rows::rows_into` meets its contract: after r turns the first r rows stand one after another.
 -- Assumes nothing.
 use mathlib.Core.Path.{_≡_, refl, sym, ap, _∙_}
-use mathlib.Core.List.{List, _++_}
-use Prim.Native.Nat.{ℕ, _+_, _*_, _-_, _≤_, _<_}
+use mathlib.Core.List.{_++_}
+use Prim.Native.Nat.{ℕ, _+_, _*_, _-_, _≤_}
 use native.Mathlib.Omega.{arith}
 use borrow.Author.Needs.{needs}
 use lib.ListN.{length, drop}
 use Rattle.params.specs.Sizes.{size}
 use Rattle.params.proofs.Ranges.{size-to, l-to}
-use Rattle.key.proofs.Rows.{part-length}
-use Rattle.key.proofs.Joins.{joined-none, joined-more, joined-done}
+use Rattle.ring.proofs.Parts.{slice-length}
+use Rattle.ring.proofs.Joins.{joined-none, joined-more, joined-done}
 use Rattle.bootstrapping.specs.Rows.{torusRow, torusRows}
 use Rattle.bootstrapping.proofs.Parts.{fits, row-drawn}
 use Rattle.bootstrapping.proofs.rows.rows_into.Statement.{statement}
@@ -89,10 +89,10 @@ row-into-requires c κs =
     let h = s .pre in (
       h .0,
       c .before .before .before .loop-test .taken,
-      part-length (s .args .masks .now) _ _ (masks-fit (c .before .before .before)) ∙ h .3,
-      part-length (s .args .noise .now) _ _ (noise-fit (c .before .before .before)) ∙ h .3,
+      slice-length (s .args .masks .now) _ _ (masks-fit (c .before .before .before)) ∙ h .3,
+      slice-length (s .args .noise .now) _ _ (noise-fit (c .before .before .before)) ∙ h .3,
       h .3,
-      part-length (c .before .before .before .before .loop .out) _ _ (out-fit (c .before .before .before)) ∙ wide s,
+      slice-length (c .before .before .before .before .loop .out) _ _ (out-fit (c .before .before .before)) ∙ wide s,
     )
 
 add-r : tie.Need-add-r Inv-loop μ-loop
@@ -107,7 +107,7 @@ loop-again c =
     let l = c .before .before .before .before .before .before .before .loop in
     let h = c .before .before .before .before .before .before .loop-test .taken in
     let row = c .before .before .row-into .last .1 .1 .1 .1 .1 .1 .0 in
-    let long = c .before .out .given .0 ∙ part-length (l .out) _ _ (out-fit (c .before .before .before .before .before .before)) in
+    let long = c .before .out .given .0 ∙ slice-length (l .out) _ _ (out-fit (c .before .before .before .before .before .before)) in
     let made = row-drawn (g .p) (g .key .now) (g .masks .now) (g .noise .now) (g .m) (l .r) (length (g .key .now)) (c .before .before .before .before .before .before .before .before .before .before .before .before .before .pre .3) (c .before .before .row-into .ensures) in
     let e =
     joined-more (length (g .key .now) + length (g .key .now)) (torusRow (g .p) (g .m) (g .key .now) (g .masks .now) (g .noise .now)) (g .out .now) (l .r) (l .inv .2) (l .inv .3) row made long

@@ -1,6 +1,6 @@
 -- `bootstrapping::rows::weighted` meets its contract: products modulo 2^32 go by their factors.
 -- Assumes nothing.
-use mathlib.Core.Path.{_≡_, ap, _∙_}
+use mathlib.Core.Path.{ap, _∙_}
 use Prim.Native.Nat.{ℕ, _+_, _-_, _*_, _%_, _^_}
 use borrow.Author.Needs.{needs}
 use Rattle.ring.specs.Word.{Q}

@@ -6,10 +6,10 @@ use native.Mathlib.Omega.{arith}
 use lib.Dec.{lit<}
 use denote.Ref.{now}
 use Rattle.ring.specs.Sums.{sumTo}
-use Rattle.circuit.specs.Kinds.{kindOf}
+use Rattle.kinds.specs.Kinds.{kindOf}
 use Rattle.circuit.specs.Form.{kindAt, gates}
 use Rattle.circuit.specs.Plain.{workOf}
-use Rattle.circuit.proofs.Wires.{sum-none, sum-more}
+use Rattle.circuit.proofs.Wires.{total-none, total-more}
 use Rattle.circuit.proofs.cost.total.Statement.{statement}
 use Rattle.circuit.proofs.cost.total.Tie as tie
 
@@ -23,13 +23,13 @@ field-requires : tie.Need-field-requires Inv-loop μ-loop
 field-requires c κs = lit< tt
 
 loop-holds : tie.Need-loop-holds Inv-loop μ-loop
-loop-holds c = (omega arith, omega arith, sum-none _)
+loop-holds c = (omega arith, omega arith, total-none _)
 
 loop-again : tie.Need-loop-again Inv-loop μ-loop
 loop-again c =
     let b = now (c .before .before .before .before .before .before .args .bytes) in
     let i = c .before .before .before .loop .inv in
-    (omega arith, omega arith, sum-more (λ j. kindOf (kindAt b j) .work) (c .before .before .before .loop .g) (i .2) (c .work-of .ensures .0 ∙ ap (λ (n : ℕ). kindOf n .work) (c .before .byte .ensures .0)))
+    (omega arith, omega arith, total-more (λ j. kindOf (kindAt b j) .work) (c .before .before .before .loop .g) (i .2) (c .work-of .ensures .0 ∙ ap (λ (n : ℕ). kindOf n .work) (c .before .byte .ensures .0)))
 
 returns : tie.Need-returns Inv-loop μ-loop
 unfolding workOf

@@ -8,7 +8,8 @@ use borrow.Author.Tests.{eqb-true, eq-eqb, not-true, not-false}
 use lib.Dec.{lit<}
 use lib.ListN.{length}
 use denote.Ref.{now}
-use Rattle.circuit.specs.Form.{inputs, first, gateAnswer}
+use Rattle.circuit.specs.Form.{inputs, first}
+use Rattle.circuit.specs.Private.{gateAnswer}
 use Rattle.circuit.proofs.Steps.{first-start, first-stop, first-step, first-end}
 use Rattle.circuit.proofs.form.all_gates.Statement.{statement}
 use Rattle.circuit.proofs.form.all_gates.Tie as tie

@@ -7,7 +7,7 @@ use borrow.Author.Tests.{le-leb, lt-leb, lt-ltb, le-ltb, eq-eqb, ne-eqb}
 use lib.Dec.{ltb}
 use denote.Ref.{now}
 use Rattle.ring.specs.Word.{at}
-use Rattle.circuit.specs.Form.{gatePlace, kindAt, operandGood, operandsAnswer, gateAnswer}
+use Rattle.circuit.specs.Form.{gatePlace, kindAt, operandGood, gateFields}
 use Rattle.circuit.proofs.Fits.{first-needed, second-needed, third-needed, operand-fits, last-check}
 use borrow.Author.Needs.{needs}
 use Rattle.circuit.proofs.form.gate_fits.Statement.{statement}
@@ -36,23 +36,23 @@ third c =
     operand-fits b (s .args .g) 2 12 _ (c .before .before .before .before .before .before .before .before .before .before .before .byte-there .ensures .0) (third-needed (kindAt b (s .args .g)) (kind (c .before .before .before .before .before .before .before .before .before .before))) (s .pre .2) (omega arith) (c .before .field-there3 .ensures .0) (c .operand-bound3 .ensures)
 
 returns : tie.Need-returns
-unfolding gateAnswer
+unfolding gateFields
 returns c = let a = c .before .before .before .args in simp (lt-leb (kindAt (now (a .bytes)) (a .g)) 13 (omega arith))
 
 returns-2 : tie.Need-returns-2
-unfolding gateAnswer
+unfolding gateFields
 returns-2 c = let a = c .before .before .before .before .before .args in simp (le-leb (kindAt (now (a .bytes)) (a .g)) 13 (kind (c .before .before)), ne-eqb (at (now (a .bytes)) (gatePlace (a .g) + 1)) 0 (omega arith))
 
 returns-3 : tie.Need-returns-3
-unfolding gateAnswer operandsAnswer
+unfolding gateFields
 returns-3 c = let a = c .before .before .before .before .before .before .before .before .args in simp (le-leb (kindAt (now (a .bytes)) (a .g)) 13 (kind (c .before .before .before .before .before)), eq-eqb (at (now (a .bytes)) (gatePlace (a .g) + 1)) 0 (let e = c .before .before .before .before .byte-there2 .ensures .0 in let h = c .before .before .before .if2 .left in omega (arith, e, h)), first (c .before) ∙ le-ltb _ _ (c .if3 .taken))
 
 returns-4 : tie.Need-returns-4
-unfolding gateAnswer operandsAnswer
+unfolding gateFields
 returns-4 c = let a = c .before .before .before .before .before .before .before .before .before .before .before .args in simp (le-leb (kindAt (now (a .bytes)) (a .g)) 13 (kind (c .before .before .before .before .before .before .before .before)), eq-eqb (at (now (a .bytes)) (gatePlace (a .g) + 1)) 0 (let e = c .before .before .before .before .before .before .before .byte-there2 .ensures .0 in let h = c .before .before .before .before .before .before .if2 .left in omega (arith, e, h)), first (c .before .before .before .before) ∙ lt-ltb _ _ (c .before .before .before .if3 .left), second (c .before) ∙ le-ltb _ _ (c .if4 .taken))
 
 returns-5 : tie.Need-returns-5
-unfolding gateAnswer operandsAnswer
+unfolding gateFields
 returns-5 c = let a = c .before .before .before .before .before .before .before .before .before .before .before .before .before .args in rw (le-leb (kindAt (now (a .bytes)) (a .g)) 13 (kind (c .before .before .before .before .before .before .before .before .before .before)), eq-eqb (at (now (a .bytes)) (gatePlace (a .g) + 1)) 0 (let e = c .before .before .before .before .before .before .before .before .before .byte-there2 .ensures .0 in let h = c .before .before .before .before .before .before .before .before .if2 .left in omega (arith, e, h)), first (c .before .before .before .before .before .before) ∙ lt-ltb _ _ (c .before .before .before .before .before .if3 .left), second (c .before .before .before) ∙ lt-ltb _ _ (c .before .before .if4 .left)) (sym (third c) ∙ last-check (operandGood (now (a .bytes)) (a .g) 2) (gatePlace (a .g) + 6))
 
 pub gate-fits-spec : {M : Type 1} → statement M

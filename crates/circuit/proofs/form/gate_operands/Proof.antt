@@ -7,8 +7,9 @@ use Prim.Native.Nat.{ℕ, _+_, _*_}
 use native.Mathlib.Omega.{arith}
 use borrow.Author.Tests.{not-true, not-false}
 use lib.Dec.{ltb, eqb}
-use Rattle.circuit.specs.Kinds.{kindOf}
-use Rattle.circuit.specs.Form.{fieldAt, inputs, gatePlace, kindAt, operandGood, operandsAnswer}
+use Rattle.kinds.specs.Kinds.{kindOf}
+use Rattle.circuit.specs.Form.{fieldAt, inputs, gatePlace, kindAt, operandGood, gateFields}
+use Rattle.circuit.specs.Private.{operandsAnswer}
 use borrow.Author.Needs.{needs}
 use Rattle.circuit.proofs.form.gate_operands.Statement.{statement}
 use Rattle.circuit.proofs.form.gate_operands.Tie as tie
@@ -38,19 +39,19 @@ third c =
     as-good (s .args .bytes .now) (s .args .g) 2 _ (omega arith) (needed (c .before .before .before .before .before .before .before .before)) (s .pre .2) (c .before .field-there3 .ensures .0) (c .operand-good3 .ensures)
 
 returns : tie.Need-returns
-unfolding operandsAnswer
+unfolding operandsAnswer gateFields
 returns c = rw (sym (first (c .before)) ∙ not-true _ (c .if1 .taken))
 
 returns-2 : tie.Need-returns-2
-unfolding operandsAnswer
+unfolding operandsAnswer gateFields
 returns-2 c = rw (sym (first (c .before .before .before .before)) ∙ not-false _ (c .before .before .before .if1 .left), sym (second (c .before)) ∙ not-true _ (c .if2 .taken))
 
 returns-3 : tie.Need-returns-3
-unfolding operandsAnswer
+unfolding operandsAnswer gateFields
 returns-3 c = rw (sym (first (c .before .before .before .before .before .before .before)) ∙ not-false _ (c .before .before .before .before .before .before .if1 .left), sym (second (c .before .before .before .before)) ∙ not-false _ (c .before .before .before .if2 .left), sym (third (c .before)) ∙ not-true _ (c .if3 .taken))
 
 returns-4 : tie.Need-returns-4
-unfolding operandsAnswer
+unfolding operandsAnswer gateFields
 returns-4 c = rw (sym (first (c .before .before .before .before .before .before .before)) ∙ not-false _ (c .before .before .before .before .before .before .if1 .left), sym (second (c .before .before .before .before)) ∙ not-false _ (c .before .before .before .if2 .left), sym (third (c .before)) ∙ not-false _ (c .if3 .left))
 
 pub gate-operands-spec : {M : Type 1} → statement M

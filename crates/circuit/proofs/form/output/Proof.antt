@@ -6,7 +6,8 @@ use Prim.Native.Nat.{ℕ, _+_, _*_}
 use denote.Ref.{now}
 use borrow.Author.Tests.{lt-ltb, le-ltb}
 use borrow.Author.Needs.{needs}
-use Rattle.circuit.specs.Form.{outputAnswer, outputAt, wires, gates, fieldAt, refusal}
+use Rattle.circuit.specs.Form.{outputAnswer, outputAt, wires, gates, fieldAt}
+use Rattle.circuit.specs.Private.{refusal}
 use Rattle.circuit.proofs.form.output.Statement.{statement}
 use Rattle.circuit.proofs.form.output.Tie as tie
 

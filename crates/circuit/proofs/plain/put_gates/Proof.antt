@@ -8,7 +8,7 @@ use lib.Dec.{lit<}
 use lib.ListN.{length, take, drop, length-set}
 use denote.Ref.{now}
 use Rattle.circuit.specs.Plain.{wiresTo}
-use Rattle.circuit.proofs.Wires.{run-none, run-more, run-done}
+use Rattle.circuit.proofs.Wires.{run-none, run-more, run-end}
 use Rattle.circuit.proofs.plain.put_gates.Statement.{statement}
 use Rattle.circuit.proofs.plain.put_gates.Tie as tie
 
@@ -43,7 +43,7 @@ returns c =
     let a = c .before .before .before .before .before .before .args in
     let b = now (a .bytes) in
     let w = now (a .bits) in
-    run-done b w (c .before .before .before .field .result) (omega arith) (c .before .loop .g) (c .before .before .field2 .result) (omega arith) (omega arith) (c .before .loop .inv .2)
+    run-end b w (c .before .before .before .field .result) (omega arith) (c .before .loop .g) (c .before .before .field2 .result) (omega arith) (omega arith) (c .before .loop .inv .2)
     ∙ ap₂ (λ (f m : ℕ). wiresTo b (take f w) m ++ drop (f + m) w) (c .before .before .before .field .ensures .0) (c .before .before .field2 .ensures .0)
 
 pub put-gates-spec : {M : Type 1} → statement M

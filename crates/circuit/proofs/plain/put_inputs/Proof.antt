@@ -9,7 +9,7 @@ use denote.Ref.{now}
 use Rattle.ring.specs.Word.{at}
 use Rattle.ring.specs.Sums.{tab}
 use Rattle.ring.proofs.Tab.{tab-none, tab-more, tab-part}
-use Rattle.circuit.proofs.Columns.{bit-byte}
+use Rattle.kinds.proofs.Columns.{bit-byte}
 use Rattle.circuit.proofs.plain.put_inputs.Statement.{statement}
 use Rattle.circuit.proofs.plain.put_inputs.Tie as tie
 use Rattle.ring.specs.Bit.{truth, bitNumber}

@@ -6,8 +6,8 @@ use native.Mathlib.Omega.{arith}
 use lib.Dec.{lit<}
 use lib.ListN.{length}
 use Rattle.circuit.specs.Form.{inputs, gates, kindAt, operandAt}
-use Rattle.encrypted_run.specs.Ways.{wayOf}
-use Rattle.encrypted_run.specs.Refusals.{Within}
+use Rattle.ways.specs.Ways.{wayOf}
+use Rattle.ways.specs.Private.{Within}
 use Rattle.encrypted_run.proofs.Operands.{inputs-are, there}
 use Rattle.drift_run.proofs.Lent.{operand-in, own-in, own-to, wire-in, read-length, told-gate}
 use borrow.Author.Needs.{needs}
@@ -60,18 +60,6 @@ in-own c =
 add-own : tie.Need-add-own
 add-own c = let s = c .before .before .before .before .before .before .before .before .before .before .before in let e = own c in let h = own-to (s .args .bytes .now) (s .pre .0 .valid) (s .args .g) (s .pre .1) in omega (arith, e, h)
 
-wire-requires : tie.Need-wire-requires
-wire-requires c κs = in-first c
-
-wire-requires-2 : tie.Need-wire-requires-2
-wire-requires-2 c κs = in-second (c .before)
-
-wire-requires-3 : tie.Need-wire-requires-3
-wire-requires-3 c κs = in-third (c .before .before)
-
-wire-requires-4 : tie.Need-wire-requires-4
-wire-requires-4 c κs = in-own (c .before .before .before)
-
 way-drift-requires : tie.Need-way-drift-requires
 way-drift-requires c κs =
     let s = c .before .before .before .before .before .before .before .before .before .before .before .before .before .before .before .before .before .before in
@@ -79,10 +67,10 @@ way-drift-requires c κs =
     let p = s .args .p in
     let ws = s .args .wires .now in (
       s .pre .0 .secret,
-      read-length p ws _ (in-first k) (c .before .before .before .before .before .before .wire .ensures),
-      read-length p ws _ (in-second k) (c .before .before .before .before .before .wire2 .ensures),
-      read-length p ws _ (in-third k) (c .before .before .before .before .wire3 .ensures),
-      read-length p ws _ (in-own k) (c .before .before .before .wire4 .ensures),
+      read-length p ws _ (in-first k) (c .before .before .before .before .before .before .ciphertext .ensures),
+      read-length p ws _ (in-second k) (c .before .before .before .before .before .ciphertext2 .ensures),
+      read-length p ws _ (in-third k) (c .before .before .before .before .ciphertext3 .ensures),
+      read-length p ws _ (in-own k) (c .before .before .before .ciphertext4 .ensures),
     )
 
 returns : tie.Need-returns
@@ -92,11 +80,11 @@ returns c =
     let k = c .before .before .before .before .before .before .before .before in
     told-gate (g .p) (g .key .now) (g .bytes .now) (g .wires .now) (g .before .now) (g .g)
     (way (c .before .before .before .before .before .before .before .before .before .before .before .before)) (first (c .before .before .before .before .before .before .before .before .before .before .before)) (second (c .before .before .before .before .before .before .before .before .before .before)) (third k) (own k)
-    (c .before .before .before .before .before .before .before .wire .ensures) (c .before .before .before .before .before .before .wire2 .ensures) (c .before .before .before .before .before .wire3 .ensures) (c .before .before .before .before .wire4 .ensures) (c .before .before .before .drift-at .ensures) (c .before .before .drift-at2 .ensures) (c .before .drift-at3 .ensures) (c .way-drift .ensures)
+    (c .before .before .before .before .before .before .before .ciphertext .ensures) (c .before .before .before .before .before .before .ciphertext2 .ensures) (c .before .before .before .before .before .ciphertext3 .ensures) (c .before .before .before .before .ciphertext4 .ensures) (c .before .before .before .drift-at .ensures) (c .before .before .drift-at2 .ensures) (c .before .drift-at3 .ensures) (c .way-drift .ensures)
 
 pub gate-told-spec : {M : Type 1} → statement M
 gate-told-spec =
     tie.close
     (tie.spec (λ c κs. search needs) (λ c κs. search needs) (λ c κs. search needs) (λ c κs. search needs) (λ c κs. search needs) (λ c κs. search needs) add-own
-    wire-requires wire-requires-2 wire-requires-3 wire-requires-4 (λ c κs. search needs) (λ c κs. search needs) (λ c κs. search needs) way-drift-requires
+    (λ c κs. search needs) (λ c κs. search needs) (λ c κs. search needs) (λ c κs. search needs) (λ c κs. search needs) (λ c κs. search needs) (λ c κs. search needs) way-drift-requires
     returns)

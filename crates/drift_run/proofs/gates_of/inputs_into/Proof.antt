@@ -8,8 +8,8 @@ use lib.ListN.{length, drop, length-set}
 use Rattle.ring.specs.Word.{at}
 use Rattle.ring.specs.Sums.{tab}
 use Rattle.ring.proofs.Tab.{tab-none, tab-more, tab-part}
-use Rattle.encrypted_run.specs.Run.{cipherAt}
-use Rattle.encrypted_run.proofs.Ciphers.{wire-within}
+use Rattle.ways.specs.Ciphers.{cipherAt}
+use Rattle.ways.proofs.Ciphers.{wire-within}
 use Rattle.drift.specs.Words.{freshWord}
 use Rattle.drift.specs.CircuitWords.{freshWords}
 use Rattle.drift_run.proofs.Lent.{read-length}
@@ -26,14 +26,6 @@ abbrev μ-loop : tie.MeasureT-loop
 loop-holds : tie.Need-loop-holds Inv-loop μ-loop
 loop-holds c = (refl, omega arith, refl, tab-none _ (c .before .before .before .before .args .drifts .now))
 
-wire-requires : tie.Need-wire-requires Inv-loop μ-loop
-wire-requires c κs =
-    let s = c .before .before .before .before .before .before in
-    let h = s .pre in
-    let l = c .before .loop in
-    let k : l .i + 1 ≤ length (s .args .plain .now) = omega arith in
-    rw (h .1) (wire-within (s .args .p) (l .i) (length (s .args .plain .now)) k)
-
 shared-slice-read-fresh : tie.Need-shared-slice-read-fresh Inv-loop μ-loop
 shared-slice-read-fresh c = let l = c .before .before .before .loop in let e = l .inv .0 in omega arith
 
@@ -43,7 +35,7 @@ fresh-requires c κs =
     let h = s .pre in
     let l = c .before .before .before .loop in
     let k : l .i + 1 ≤ length (s .args .plain .now) = omega arith in
-    (h .0, read-length (s .args .p) (s .args .ins .now) (l .i) (rw (h .1) (wire-within (s .args .p) (l .i) (length (s .args .plain .now)) k)) (c .before .wire .ensures))
+    (h .0, read-length (s .args .p) (s .args .ins .now) (l .i) (rw (h .1) (wire-within (s .args .p) (l .i) (length (s .args .plain .now)) k)) (c .before .ciphertext .ensures))
 
 mul-drifts : tie.Need-mul-drifts Inv-loop μ-loop
 mul-drifts c = let s = c .before .before .before .before .before .before .before .before .before in let h = s .pre .2 in omega arith
@@ -61,7 +53,7 @@ loop-again c =
       omega arith,
       simp length-set (l .inv .2),
       tab-more (λ k. freshWord (g .p) (g .key .now) (cipherAt (g .p) (g .ins .now) k) (truth (at (g .plain .now) k))) (g .drifts .now) (l .i) h (l .inv .3)
-          (c .fresh .ensures ∙ ap (λ (x : List ℕ). freshWord (g .p) (g .key .now) x (truth (at (g .plain .now) (l .i)))) (c .before .before .wire .ensures)),
+          (c .fresh .ensures ∙ ap (λ (x : List ℕ). freshWord (g .p) (g .key .now) x (truth (at (g .plain .now) (l .i)))) (c .before .before .ciphertext .ensures)),
     )
 
 same-length : tie.Need-same-length Inv-loop μ-loop
@@ -77,5 +69,5 @@ returns c =
 pub inputs-into-spec : {M : Type 1} → statement M
 inputs-into-spec =
     tie.close
-    (tie.spec Inv-loop μ-loop loop-holds wire-requires shared-slice-read-fresh fresh-requires mul-drifts slice-write-drifts (λ c. omega arith)
+    (tie.spec Inv-loop μ-loop loop-holds (λ c κs. tt) shared-slice-read-fresh fresh-requires mul-drifts slice-write-drifts (λ c. omega arith)
     (λ c. omega arith) loop-again same-length returns)

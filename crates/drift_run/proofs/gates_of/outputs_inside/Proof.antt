@@ -26,6 +26,7 @@ add-o : tie.Need-add-o Inv-loop μ-loop
 add-o c = let h = c .before .before .before .before .before .before .before .before .before .pre .head .outputs-to in omega arith
 
 loop-again : tie.Need-loop-again Inv-loop μ-loop
+unfolding insideWord
 loop-again c =
     let l = c .before .before .before .before .before .loop in
     let g = c .before .before .before .before .before .before .before .before .before .args in
@@ -33,7 +34,7 @@ loop-again c =
       l .inv .0,
       omega arith,
       all-more _ (l .o) (l .inv .2)
-          (c .before .word-inside .ensures ∙ ap insideWord (c .before .before .drift-at .ensures ∙ ap (at (g .drifts .now)) (there (l .o) (outputs (g .bytes .now)) (outputAt (g .bytes .now) (l .o)) h (c .before .before .before .output-at .ensures)))) (c .both .ensures),
+          (c .before .is-inside .ensures ∙ ap insideWord (c .before .before .drift-at .ensures ∙ ap (at (g .drifts .now)) (there (l .o) (outputs (g .bytes .now)) (outputAt (g .bytes .now) (l .o)) h (c .before .before .before .output-at .ensures)))) (c .both .ensures),
     )
 
 returns : tie.Need-returns Inv-loop μ-loop

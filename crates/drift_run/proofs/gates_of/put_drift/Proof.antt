@@ -9,7 +9,7 @@ use Rattle.circuit.specs.Form.{inputs}
 use Rattle.encrypted_run.proofs.Operands.{inputs-are}
 use Rattle.drift.specs.CircuitWords.{gateBroughtWords}
 use Rattle.drift.specs.Short.{shortGate}
-use Rattle.drift_run.specs.declared.ways.Drifted.{Drifted}
+use Rattle.drift_run.specs.declared.by_way.Drifted.{Drifted}
 use Rattle.drift_run.specs.Private.{drifted}
 use Rattle.drift_run.proofs.Lent.{own-in, own-to}
 use Rattle.drift_run.proofs.Drifts.{put-made}

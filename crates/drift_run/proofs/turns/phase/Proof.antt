@@ -4,7 +4,7 @@ use mathlib.Core.Path.{_∙_}
 use lib.ListN.{length}
 use Rattle.params.proofs.Answers.{when-done}
 use Rattle.tlwe.specs.declared.Level.the-variants.{Zero}
-use Rattle.tlwe.proofs.Refusals.{keyed-rest}
+use Rattle.tlwe.proofs.Refusals.{keyed-done}
 use borrow.Author.Needs.{needs}
 use Rattle.drift_run.proofs.turns.phase.Statement.{statement}
 use Rattle.drift_run.proofs.turns.phase.Tie as tie
@@ -13,7 +13,7 @@ returns : tie.Need-returns
 returns c =
     let s = c .before .before .before .before in
     let h = s .pre in
-    c .before .phase-of .ensures .1 ∙ when-done _ _ 0 (keyed-rest (s .args .p) Zero (length (s .args .c .now)) (s .args .key .now) 0 (h .0 .good) (h .1) (h .0 .long) (h .0 .bits))
+    c .before .phase-of .ensures .1 ∙ when-done _ _ 0 (keyed-done (s .args .p) Zero (length (s .args .c .now)) (s .args .key .now) (h .0 .good) (h .1) (h .0 .long) (h .0 .bits))
 
 pub phase-spec : {M : Type 1} → statement M
 phase-spec = tie.close

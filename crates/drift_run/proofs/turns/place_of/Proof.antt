@@ -9,7 +9,7 @@ use Rattle.params.specs.Sizes.{size}
 use Rattle.params.proofs.Ranges.{in-range}
 use Rattle.rotation.specs.Amount.{bodyAmount}
 use Rattle.rotation.proofs.Amounts.{body-to}
-use Rattle.gates.specs.Sum.{summed}
+use Rattle.gate_sums.specs.Sum.{summed}
 use Rattle.drift_run.proofs.Steps.{turn-power, turns-fit, turn-pos, place-is}
 use borrow.Author.Needs.{needs}
 use Rattle.drift_run.proofs.turns.place_of.Statement.{statement}

@@ -6,7 +6,7 @@ use native.Mathlib.Omega.{arith}
 use lib.Dec.{ltb}
 use Rattle.ring.specs.Word.{Q}
 use Rattle.params.proofs.Ranges.{in-range}
-use Rattle.gates.specs.declared.sums.Weights.{Weights}
+use Rattle.gate_sums.specs.declared.Weights.{Weights}
 use Rattle.drift.specs.Short.{sideOf}
 use Rattle.drift_run.proofs.Steps.{size-power, brought-is}
 use borrow.Author.Needs.{needs}

@@ -2,13 +2,13 @@
 -- Assumes nothing.
 use mathlib.Core.Path.{sym, ap, ap₂, _∙_}
 use Prim.Native.Nat.{ℕ, _+_, _*_, _%_}
-use Rattle.tlwe.specs.Key.{phaseOf}
-use Rattle.gates.specs.declared.sums.Weights.{Weights}
+use Rattle.gate_sums.specs.declared.Weights.{Weights}
 use Rattle.ring.specs.Word.{Q}
 use Rattle.drift.proofs.Phases.{sum-phase}
 use borrow.Author.Needs.{needs}
 use Rattle.drift_run.proofs.turns.sum_phase.Statement.{statement}
 use Rattle.drift_run.proofs.turns.sum_phase.Tie as tie
+use Rattle.ring.specs.Phase.{phaseOf}
 
 returns : tie.Need-returns
 returns c =

@@ -3,7 +3,7 @@
 use mathlib.Core.Path.{_∙_, ap, sym}
 use Rattle.params.proofs.Answers.{kept, done}
 use Rattle.circuit.specs.declared.Worked.{Worked}
-use Rattle.egl_c.specs.Packed.{packed, packedWith}
+use Rattle.packing.specs.Packed.{packed, packedWith}
 use borrow.Author.Needs.{needs}
 use Rattle.egl_c.proofs.circuit_c.egl_circuit_work.Statement.{statement}
 use Rattle.egl_c.proofs.circuit_c.egl_circuit_work.Tie as tie

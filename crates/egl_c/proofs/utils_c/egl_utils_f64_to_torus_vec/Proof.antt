@@ -1,7 +1,7 @@
 -- `egl_utils_f64_to_torus_vec` meets its contract: it packs what the routine answers, and the routine has written.
 -- Assumes nothing.
 use mathlib.Core.Path.{_∙_, ap}
-use Rattle.egl_c.specs.Packed.{packed}
+use Rattle.packing.specs.Packed.{packed}
 use borrow.Author.Needs.{needs}
 use Rattle.egl_c.proofs.utils_c.egl_utils_f64_to_torus_vec.Statement.{statement}
 use Rattle.egl_c.proofs.utils_c.egl_utils_f64_to_torus_vec.Tie as tie

@@ -3,14 +3,13 @@
 use mathlib.Core.Path.{_≡_, refl, _∙_}
 use mathlib.Core.List.{_++_}
 use Prim.Native.Nat.{_+_, _*_, _-_, _≤_}
-use native.Mathlib.Nat.{mul-le-mul-right}
 use native.Mathlib.Omega.{arith}
 use borrow.Author.Needs.{needs}
 use lib.ListN.{length, take, drop}
-use Rattle.circuit.specs.Form.{inputs, gates, wires}
+use Rattle.circuit.specs.Form.{inputs, gates}
 use Rattle.encrypted_run.specs.Run.{ciphersTo}
 use Rattle.encrypted_run.proofs.Operands.{gates-are}
-use Rattle.encrypted_run.proofs.Wires.{run-none, run-more, run-end}
+use Rattle.encrypted_run.proofs.Wires.{inputs-fit, run-none, run-more, run-end}
 use Rattle.encrypted_run.proofs.steps.all_into.Statement.{statement}
 use Rattle.encrypted_run.proofs.steps.all_into.Tie as tie
 
@@ -23,17 +22,14 @@ abbrev μ-loop : tie.MeasureT-loop
 μ-loop p ksk bsk bytes wires₀ n g₀ wires g = n - g
 
 -- the inputs lie within the wires
-fits : (s : tie.Start Inv-loop μ-loop) → inputs (s .args .bytes .now) * (s .args .p .n + 1) ≤ length (s .args .wires .now)
-fits s =
-    let b = s .args .bytes .now in
-    let l : inputs b ≤ wires b = omega arith in
-    rw (s .pre .wires-length) (mul-le-mul-right (s .args .p .n + 1) l)
+within : (s : tie.Start Inv-loop μ-loop) → inputs (s .args .bytes .now) * (s .args .p .n + 1) ≤ length (s .args .wires .now)
+within s = rw (s .pre .wires-length) (inputs-fit (s .args .p) (s .args .bytes .now))
 
 loop-holds : tie.Need-loop-holds Inv-loop μ-loop
 loop-holds c =
     let s = c .before .before .before .before .before in
     let g = s .args in
-    (omega arith, refl, run-none (g .p) (g .ksk .now) (g .bsk .now) (g .bytes .now) (g .wires .now) (fits s))
+    (omega arith, refl, run-none (g .p) (g .ksk .now) (g .bsk .now) (g .bytes .now) (g .wires .now) (within s))
 
 one-requires : tie.Need-one-requires Inv-loop μ-loop
 one-requires c κs =
@@ -58,7 +54,7 @@ loop-again c =
     let t = c .before .before .before .before .loop-test .taken in (
       omega (arith, e, t),
       c .before .wires .given ∙ l .inv .1,
-      c .before .before .one .ensures ∙ run-more (g .p) (g .ksk .now) (g .bsk .now) (g .bytes .now) (g .wires .now) (fits s) (l .g) (l .inv .2),
+      c .before .before .one .ensures ∙ run-more (g .p) (g .ksk .now) (g .bsk .now) (g .bytes .now) (g .wires .now) (within s) (l .g) (l .inv .2),
     )
 
 same-length : tie.Need-same-length Inv-loop μ-loop
@@ -71,7 +67,7 @@ returns c =
     let l = c .before .loop in
     let e = gates-are (g .bytes .now) (c .before .before .counts .ensures) in
     let t = c .loop-test .left in
-    run-end (g .p) (g .ksk .now) (g .bsk .now) (g .bytes .now) (g .wires .now) (fits s) (l .g) (l .inv .0) (omega (arith, e, t)) (s .pre .wires-length) (l .inv .2)
+    run-end (g .p) (g .ksk .now) (g .bsk .now) (g .bytes .now) (g .wires .now) (within s) (l .g) (l .inv .0) (omega (arith, e, t)) (s .pre .wires-length) (l .inv .2)
 
 pub all-into-spec : {M : Type 1} → statement M
 all-into-spec =

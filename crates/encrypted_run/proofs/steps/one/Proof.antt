@@ -2,7 +2,7 @@
 -- Assumes nothing.
 use mathlib.Core.Path.{refl, sym}
 use Rattle.gates.proofs.Checks.{level0-to}
-use Rattle.gates.proofs.Chain.{scratch}
+use Rattle.words.proofs.Scratch.{scratch}
 use borrow.Author.Needs.{needs}
 use Rattle.encrypted_run.proofs.steps.one.Statement.{statement}
 use Rattle.encrypted_run.proofs.steps.one.Tie as tie

@@ -4,7 +4,7 @@ use mathlib.Core.Path.{ap, _∙_}
 use native.Mathlib.Omega.{arith}
 use lib.ListN.{length}
 use Rattle.circuit.specs.Form.{wires}
-use Rattle.encrypted_run.proofs.Ciphers.{wire-within}
+use Rattle.ways.proofs.Ciphers.{wire-within}
 use Rattle.encrypted_run.proofs.Operands.{inputs-are}
 use Rattle.encrypted_run.proofs.Wires.{gate-length, step-made}
 use Prim.Native.Nat.{_+_, _-_}

@@ -8,11 +8,12 @@ use borrow.Author.Needs.{needs}
 use denote.Ref.{now}
 use lib.ListN.{length, take, drop, length-append}
 use Rattle.params.specs.declared.Params.{Params}
-use Rattle.key.proofs.Joins.{joined-none, joined-done}
+use Rattle.ring.proofs.Joins.{joined-none, joined-done}
 use Rattle.circuit.specs.Form.{outputs, wires, outputAt}
-use Rattle.encrypted_run.specs.Refusals.{Within}
-use Rattle.encrypted_run.specs.Run.{cipherAt, outputCiphers}
-use Rattle.encrypted_run.proofs.Ciphers.{cipher-length, wire-within}
+use Rattle.ways.specs.Ciphers.{cipherAt}
+use Rattle.ways.specs.Private.{Within}
+use Rattle.encrypted_run.specs.Run.{outputCiphers}
+use Rattle.ways.proofs.Ciphers.{cipher-length, wire-within}
 use Rattle.encrypted_run.proofs.Operands.{outputs-are, there}
 use Rattle.encrypted_run.proofs.Wires.{put-next, joined-next}
 use Rattle.encrypted_run.proofs.steps.outputs_into.Statement.{statement}
@@ -60,9 +61,6 @@ loop-holds c =
     let g = c .before .before .before .before .args in
     let e = joined-none (g .p .n + 1) (outputCipher (g .p) (g .bytes .now) (g .wires .now)) (g .out .now) in
     (omega arith, refl, e .0, e .1)
-
-ciphertext-requires : tie.Need-ciphertext-requires Inv-loop μ-loop
-ciphertext-requires c κs = lies c
 
 put-at-requires : tie.Need-put-at-requires Inv-loop μ-loop
 put-at-requires c κs =
@@ -118,5 +116,5 @@ returns c =
 pub outputs-into-spec : {M : Type 1} → statement M
 outputs-into-spec =
     tie.close
-    (tie.spec Inv-loop μ-loop (λ c κs. search needs) loop-holds (λ c κs. search needs) ciphertext-requires put-at-requires add-o loop-less loop-again
+    (tie.spec Inv-loop μ-loop (λ c κs. search needs) loop-holds (λ c κs. search needs) (λ c κs. search needs) put-at-requires add-o loop-less loop-again
     same-length returns)

@@ -2,7 +2,7 @@
 -- Assumes nothing.
 use mathlib.Core.Path.{ap, _∙_}
 use Rattle.encrypted_run.specs.Run.{outputCiphers}
-use Rattle.encrypted_run.proofs.Wires.{start-made}
+use Rattle.encrypted_run.proofs.Wires.{inputs-fit, start-made}
 use borrow.Author.Needs.{needs}
 use Rattle.encrypted_run.proofs.steps.run_into.Statement.{statement}
 use Rattle.encrypted_run.proofs.steps.run_into.Tie as tie
@@ -11,7 +11,7 @@ returns : tie.Need-returns
 returns c =
     let s = c .before .before .before .before .before .before .before .before .before .before .before .before .before .before .before .before .before .before .before in
     let g = s .args in
-    let held = start-made (g .p) (g .ksk .now) (g .bsk .now) (g .bytes .now) (g .ins .now) (g .wires .now) (s .pre .ins-length) (c .before .before .before .before .before .before .before .before .before .before .before .put-front .ensures) (c .before .before .before .before .before .before .before .all-into .ensures) in
+    let held = start-made (g .p) (g .ksk .now) (g .bsk .now) (g .bytes .now) (g .ins .now) (g .wires .now) (s .pre .ins-length) (rw (s .pre .ins-length, s .pre .step .wires-length) (inputs-fit (g .p) (g .bytes .now))) (c .before .before .before .before .before .before .before .before .before .before .before .copy .ensures) (c .before .before .before .before .before .before .before .all-into .ensures) in
     (held, c .before .before .outputs-into .ensures ∙ ap (outputCiphers (g .p) (g .bytes .now)) held)
 
 pub run-into-spec : {M : Type 1} → statement M

@@ -7,12 +7,10 @@ use Rattle.gates.proofs.boot.gate_on.Tie as tie
 
 returns : tie.Need-returns
 returns c =
-    let d = c .before .before .before .before .before .before .before .before .before .before .before .before .before .before .before in
-    let g = d .args in
-    let k = d .pre .0 in
-    gate-made (g .p) (k .good) (g .ksk .now) (g .bsk .now) (g .out .now) (k .switching) (k .result) (g .kind) (g .a .now) (g .b .now) (c .before .before .before .before .before .before .before .put-sample .ensures) (c .before .before .identity-key-switching .ensures .1)
+    let g = c .before .before .before .before .before .before .before .before .before .before .before .before .before .before .before .args in
+    let r = c .before .before .before .before .before .before .before .before .before .before .before .before .before .before .before .pre in
+    gate-made (g .p) (g .kind) (g .a .now) (g .b .now) (g .ksk .now) (g .bsk .now) (g .out .now) (g .sample .now) (r .0) (r .1) (c .before .before .before .before .before .before .before .sample .ensures .1) (c .before .before .identity-key-switching .ensures .1)
 
 pub gate-on-spec : {M : Type 1} → statement M
-gate-on-spec =
-    tie.close
-    (tie.spec (λ c κs. search needs) (λ c κs. search needs) (λ c. search needs) (λ c. search needs) returns)
+gate-on-spec = tie.close
+    (tie.spec (λ c κs. tt) (λ c κs. tt) (λ c. search needs) (λ c. search needs) returns)

@@ -2,7 +2,7 @@
 -- Assumes nothing.
 use mathlib.Core.Path.{sym, _∙_}
 use Rattle.gates.proofs.Checks.{level1-is, level1-to}
-use Rattle.gates.proofs.Chain.{scratch}
+use Rattle.words.proofs.Scratch.{scratch}
 use borrow.Author.Needs.{needs}
 use Rattle.gates.proofs.boot.put_gate.Statement.{statement}
 use Rattle.gates.proofs.boot.put_gate.Tie as tie

@@ -1,13 +1,13 @@
 -- `key::bits::bit_rows` meets its contract: an index that is not refused has its rows within the key.
 -- Assumes nothing.
-use mathlib.Core.Path.{_≡_, sym, ap, _∙_}
-use Prim.Native.Nat.{ℕ, _+_, _*_, _≤_}
-use native.Mathlib.Nat.{add-sub-cancel-left}
+use mathlib.Core.Path.{_≡_, sym, _∙_}
+use Prim.Native.Nat.{_+_, _*_, _≤_}
 use native.Mathlib.Omega.{arith}
-use lib.ListN.{length, take, drop}
+use lib.ListN.{length}
+use Rattle.ring.proofs.Parts.{slice-part}
 use Rattle.params.proofs.Answers.{kept, done}
 use Rattle.params.specs.Sizes.{bitWords}
-use Rattle.key.specs.Bits.{bitRows, bitRowsNumber}
+use Rattle.key.specs.Bits.{bitRows}
 use Rattle.key.proofs.Checks.{BitGood, bit-good, bit-of}
 use Rattle.key.proofs.Rows.{row-ends}
 use borrow.Author.Needs.{needs}
@@ -47,7 +47,7 @@ returns-2 : tie.Need-returns-2
 unfolding bitRows
 returns-2 c =
     let l = c .before .before in
-    done _ _ _ (sym (l .before .bit-number .ensures) ∙ l .if1 .left) (rw (add-sub-cancel-left, bit (c .before)))
+    done _ _ _ (sym (l .before .bit-number .ensures) ∙ l .if1 .left) (rw (bit (c .before)) (slice-part _ _ _))
 
 pub bit-rows-spec : {M : Type 1} → statement M
 bit-rows-spec =

@@ -8,7 +8,8 @@ use lib.ListN.{length}
 use Rattle.params.specs.Sizes.{base}
 use Rattle.params.proofs.Ranges.{t-to, base-to}
 use Rattle.key.specs.Switching.{carried}
-use Rattle.key.proofs.Rows.{base-code, part-length}
+use Rattle.ring.proofs.Parts.{slice-length}
+use Rattle.key.proofs.Rows.{base-code}
 use Rattle.key.proofs.Draws.{Way, on-way, drawn-code, row-code}
 use borrow.Author.Needs.{needs}
 use Rattle.key.proofs.generate.drawn_into.Statement.{statement}
@@ -75,7 +76,7 @@ encrypted-requires : tie.Need-encrypted-requires
 encrypted-requires c κs =
     let g = c .before .before .before .before .before .before .before .before .before .before .before .before .before .args in
     let h = c .before .before .before .before .before .before .before .before .before .before .before .before .before .pre in
-    let l = part-length (g .masks .now) _ _ (part (c .before .before .before)) in
+    let l = slice-length (g .masks .now) _ _ (part (c .before .before .before)) in
     (l ∙ sym (h .0 .key-length), h .5 ∙ ap (λ (x : ℕ). x + 1) (sym l))
 
 returns : tie.Need-returns

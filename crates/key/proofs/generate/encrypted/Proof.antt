@@ -1,7 +1,7 @@
 -- `key::generate::encrypted` meets its contract: the last word is the sum of the three.
 -- Assumes nothing.
-use mathlib.Core.Path.{_≡_, ap, _∙_}
-use mathlib.Core.List.{List, [], _∷_, _++_}
+use mathlib.Core.Path.{ap, _∙_}
+use mathlib.Core.List.{[], _∷_, _++_}
 use Prim.Native.Nat.{ℕ}
 use Rattle.key.proofs.Draws.{body-code}
 use borrow.Author.Needs.{needs}

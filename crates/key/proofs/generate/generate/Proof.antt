@@ -1,6 +1,6 @@
 -- `key::generate::generate` meets its contract: after r turns the first r rows stand one after another.
 -- Assumes nothing.
-use mathlib.Core.Path.{_≡_, refl, sym, ap, _∙_}
+use mathlib.Core.Path.{_≡_, refl, ap, _∙_}
 use mathlib.Core.List.{List, _++_}
 use Prim.Native.Nat.{ℕ, _+_, _*_, _-_, _/_, _≤_, _<_}
 use native.Mathlib.Nat.{mul-div-cancel}
@@ -9,8 +9,9 @@ use lib.ListN.{length, drop}
 use Rattle.params.specs.declared.Params.{Params}
 use Rattle.params.specs.Sizes.{switchingRows}
 use Rattle.key.specs.Generation.{rowOuter, rowField, rowDigit, generatedRow, generated}
-use Rattle.key.proofs.Rows.{part-length, row-ends}
-use Rattle.key.proofs.Joins.{joined-none, joined-more, joined-done}
+use Rattle.ring.proofs.Parts.{slice-length}
+use Rattle.key.proofs.Rows.{row-ends}
+use Rattle.ring.proofs.Joins.{joined-none, joined-more, joined-done}
 use borrow.Author.Needs.{needs}
 use Rattle.key.proofs.generate.generate.Statement.{statement}
 use Rattle.key.proofs.generate.generate.Tie as tie
@@ -66,7 +67,7 @@ part-row-into-end c = omega (arith, ends c)
 
 row-into-requires : tie.Need-row-into-requires Inv-loop μ-loop
 row-into-requires c κs =
-    (c .before .before .before .before .before .before .before .before .before .pre .0, within (c .before), part-length (c .before .before .loop .out) _ _ (ends (c .before)))
+    (c .before .before .before .before .before .before .before .before .before .pre .0, within (c .before), slice-length (c .before .before .loop .out) _ _ (ends (c .before)))
 
 add-r : tie.Need-add-r Inv-loop μ-loop
 add-r c = omega (arith, within (c .before .before .before .before))
@@ -79,7 +80,7 @@ loop-again c =
     let g = c .before .before .before .before .before .before .before .before .before .before .before .before .args in
     let l = c .before .before .before .before .before .loop in
     let row = c .before .before .row-into .last .1 .1 .1 .1 .1 .1 .0 in
-    let long = c .before .out .given .0 ∙ part-length (l .out) _ _ (ends (c .before .before .before .before)) in
+    let long = c .before .out .given .0 ∙ slice-length (l .out) _ _ (ends (c .before .before .before .before)) in
     let e =
     joined-more (g .p .n + 1) (rowAt (g .p) (g .key-lv0 .now) (g .key-lv1 .now) (g .masks .now) (g .noise .now)) (g .out .now) (l .r) (l .inv .2) (l .inv .3) row (c .before .before .row-into .ensures) long
     in

@@ -1,9 +1,8 @@
 -- `key::generate::row_into` meets its contract: the row number gives its three indices, and by the last of them the row is zero or draws.
 -- Assumes nothing.
 use mathlib.Core.Path.{_≡_, sym, ap, _∙_}
-use Prim.Native.Nat.{ℕ, _+_, _*_, _-_, _/_, _%_, _≤_, _<_}
+use Prim.Native.Nat.{ℕ, _-_}
 use native.Mathlib.Omega.{arith}
-use lib.ListN.{length}
 use Rattle.ring.specs.Sums.{tab}
 use Rattle.params.specs.Sizes.{base}
 use Rattle.params.proofs.Ranges.{base-from}

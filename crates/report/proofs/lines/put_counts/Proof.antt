@@ -11,7 +11,7 @@ use borrow.Author.Needs.{needs}
 use Rattle.circuit.specs.declared.Shape.{Shape}
 use Rattle.circuit.specs.Form.{countsOf}
 use Rattle.circuit.proofs.Accept.{accepted}
-use Rattle.report.specs.Splice.{splice}
+use Rattle.report.specs.Private.{splice}
 use Rattle.report.specs.Text.{eglWord, inputsWord, gatesWord, named, countsText}
 use Rattle.report.proofs.Pieces.{Written, written-next, length-named, counts-version, counts-inputs, counts-gates}
 use Rattle.report.proofs.lines.put_counts.Statement.{statement}

@@ -9,7 +9,7 @@ use lib.ListN.{length}
 use denote.Ref.{now}
 use borrow.Author.Needs.{needs}
 use Rattle.circuit.proofs.Accept.{accepted}
-use Rattle.report.specs.Splice.{splice}
+use Rattle.report.specs.Private.{splice}
 use Rattle.report.specs.Text.{outputsWord, workWord, named, countsText, headText}
 use Rattle.report.proofs.Pieces.{Written, written-next, length-named, length-counts, work-small, counts-outputs}
 use Rattle.report.proofs.lines.put_head.Statement.{statement}

@@ -10,7 +10,7 @@ use Rattle.ring.specs.Sums.{tab}
 use Rattle.circuit.specs.Plain.{outputBits}
 use Rattle.circuit.proofs.Accept.{accepted, RunGood}
 use Rattle.circuit.proofs.Laws.{run-writes}
-use Rattle.report.specs.Splice.{splice}
+use Rattle.report.specs.Private.{splice}
 use Rattle.report.specs.Text.{lineText, rowInputs, rowText}
 use Rattle.report.proofs.lines.put_row_over.Statement.{statement}
 use Rattle.report.proofs.lines.put_row_over.Tie as tie

@@ -5,7 +5,7 @@ use Prim.Native.Nat.{ℕ, _+_, _^_, _≤_, _-_}
 use native.Mathlib.Omega.{arith}
 use lib.ListN.{length}
 use denote.Ref.{now}
-use Rattle.report.specs.Splice.{splice}
+use Rattle.report.specs.Private.{splice}
 use Rattle.report.specs.Text.{rowText, rowsTo}
 use Rattle.report.proofs.Pieces.{Written, written-next, rows-start, rows-more, rows-to, length-rows, counts-inputs}
 use Rattle.report.proofs.lines.put_rows.Statement.{statement}

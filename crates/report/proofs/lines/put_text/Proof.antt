@@ -9,9 +9,10 @@ use lib.ListN.{length}
 use denote.Ref.{now}
 use borrow.Author.Needs.{needs}
 use Rattle.params.specs.declared.Answer.{Answer}
-use Rattle.circuit.specs.Form.{inputs, answerOf, refusal}
+use Rattle.circuit.specs.Form.{inputs, answerOf}
+use Rattle.circuit.specs.Private.{refusal}
 use Rattle.circuit.proofs.Accept.{accepted}
-use Rattle.report.specs.Splice.{splice}
+use Rattle.report.specs.Private.{splice}
 use Rattle.report.specs.Text.{headText, rowsTo, refusedText}
 use Rattle.report.proofs.Pieces.{Written, written-next, rows-to, length-rows, counts-inputs}
 use Rattle.report.proofs.Texts.{work-said, work-value, text-refused, text-long, text-table, length-head}

@@ -5,7 +5,7 @@ use mathlib.Core.List.{List, [], _∷_}
 use native.Mathlib.Omega.{arith}
 use denote.Ref.{now}
 use Rattle.report.specs.Decimal.{decimal}
-use Rattle.report.specs.Splice.{splice}
+use Rattle.report.specs.Private.{splice}
 use Rattle.report.proofs.Digits.{decimal-one, decimal-more, length-one, length-more, length-from}
 use Rattle.report.proofs.Spliced.{splice-next}
 use Prim.Native.Nat.{ℕ, _+_, _/_, _%_, _≤_, _<_}

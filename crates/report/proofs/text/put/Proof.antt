@@ -7,7 +7,7 @@ use native.Mathlib.Omega.{arith}
 use lib.ListN.{length, getD, length-set}
 use denote.Ref.{now}
 use Rattle.ring.specs.Sums.{tab}
-use Rattle.report.specs.Splice.{splice}
+use Rattle.report.specs.Private.{splice}
 use Rattle.report.proofs.Spliced.{splice-start, splice-more, tab-self}
 use Rattle.report.proofs.text.put.Statement.{statement}
 use Rattle.report.proofs.text.put.Tie as tie

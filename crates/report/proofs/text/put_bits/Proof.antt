@@ -7,8 +7,8 @@ use native.Mathlib.Omega.{arith}
 use lib.ListN.{length, getD, length-set}
 use denote.Ref.{now}
 use Rattle.ring.specs.Sums.{tab}
-use Rattle.circuit.proofs.Columns.{byte-small}
-use Rattle.report.specs.Splice.{splice}
+use Rattle.kinds.proofs.Columns.{byte-small}
+use Rattle.report.specs.Private.{splice}
 use Rattle.report.specs.Text.{bitChar}
 use Rattle.report.proofs.Spliced.{splice-start, splice-more, char-byte}
 use Rattle.report.proofs.text.put_bits.Statement.{statement}

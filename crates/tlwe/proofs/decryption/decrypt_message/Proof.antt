@@ -6,9 +6,8 @@ use denote.Ref.{now}
 use Rattle.params.specs.declared.Answer.{Answer}
 use Rattle.params.specs.Refusal.{answer}
 use Rattle.params.proofs.Answers.{kept, done, when-done}
-use Rattle.tlwe.specs.Plain.{modulusNumber}
 use Rattle.tlwe.specs.Decrypt.{messageOf}
-use Rattle.tlwe.proofs.Refusals.{keyed-then, keyed-before}
+use Rattle.tlwe.proofs.Refusals.{message-then, message-before}
 use borrow.Author.Needs.{needs}
 use Rattle.tlwe.proofs.decryption.decrypt_message.Statement.{statement}
 use Rattle.tlwe.proofs.decryption.decrypt_message.Tie as tie
@@ -18,7 +17,7 @@ returns c =
     let a = c .before .before .before .before .before .before .before .args in
     let e = c .before .before .before .before .phase-of .ensures in
     let n = ap (λ (x : Answer). x .number) (e .0) in
-    let b = keyed-before (a .p) (a .level) (length (now (a .c))) (now (a .key)) (modulusNumber (a .modulus)) (λ z. c .if1 .taken (n ∙ z)) in
+    let b = message-before (a .p) (a .level) (length (now (a .c))) (now (a .key)) (a .modulus) (λ z. c .if1 .taken (n ∙ z)) in
     (e .0 ∙ ap answer b, kept _ _ _ (λ z. c .if1 .taken (n ∙ b ∙ z)))
 
 returns-2 : tie.Need-returns-2
@@ -26,7 +25,7 @@ returns-2 c =
     let a = c .before .before .before .before .before .before .before .before .before .args in
     let e = c .before .before .before .before .before .before .phase-of .ensures in
     let n = ap (λ (x : Answer). x .number) (e .0) in
-    let m = c .before .modulus-number .ensures ∙ sym (keyed-then (a .p) (a .level) (length (now (a .c))) (now (a .key)) (modulusNumber (a .modulus)) (sym n ∙ c .before .before .if1 .left)) in
+    let m = c .before .modulus-number .ensures ∙ sym (message-then (a .p) (a .level) (length (now (a .c))) (now (a .key)) (a .modulus) (sym n ∙ c .before .before .if1 .left)) in
     (ap answer m, kept _ _ _ (λ z. c .if2 .taken (m ∙ z)))
 
 returns-3 : tie.Need-returns-3
@@ -35,7 +34,7 @@ returns-3 c =
     let e = c .before .before .before .before .before .before .before .phase-of .ensures in
     let n = ap (λ (x : Answer). x .number) (e .0) in
     let y = sym n ∙ c .before .before .before .if1 .left in
-    let m = c .before .before .modulus-number .ensures ∙ sym (keyed-then (a .p) (a .level) (length (now (a .c))) (now (a .key)) (modulusNumber (a .modulus)) y) in
+    let m = c .before .before .modulus-number .ensures ∙ sym (message-then (a .p) (a .level) (length (now (a .c))) (now (a .key)) (a .modulus) y) in
     (ap answer m, done _ _ _ (sym m ∙ c .before .if2 .left) (c .message-of .ensures ∙ ap (messageOf (a .modulus)) (e .1 ∙ when-done _ _ _ y)))
 
 pub decrypt-message-spec : {M : Type 1} → statement M

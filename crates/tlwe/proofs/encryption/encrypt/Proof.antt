@@ -21,8 +21,8 @@ returns c =
     (ap answer e, kept _ _ _ (λ z. c .if1 .taken (e ∙ z)))
 
 -- where the number is 0 the lengths fit
-good : (c : tie.Else1) → let a = c .before .before .before .before .before .args in Lent (a .p) (a .level) (length (now (a .masks))) (length (now (a .key))) (length (now (a .out))) 0
-good c = encrypt-lent _ _ _ _ _ _ (sym (c .before .encrypt-lengths .ensures) ∙ c .if1 .left)
+good : (c : tie.Else1) → let a = c .before .before .before .before .before .args in Lent (a .p) (a .level) (length (now (a .masks))) (length (now (a .key))) (length (now (a .out)))
+good c = encrypt-lent _ _ _ _ _ (sym (c .before .encrypt-lengths .ensures) ∙ c .if1 .left)
 
 encrypt-into-requires : tie.Need-encrypt-into-requires
 encrypt-into-requires c κs = let g = good (c .before) in (g .keys ∙ sym (g .masks), g .result ∙ sym (ap (λ (k : ℕ). k + 1) (g .masks)))

@@ -1,9 +1,10 @@
 -- `tlwe::encryption::encrypt_into` meets its contract: the key's words, then the plaintext, then the ciphertext.
 -- Assumes nothing.
-use mathlib.Core.Path.{_≡_, sym, ap, _∙_}
+use mathlib.Core.Path.{_≡_, sym, _∙_}
 use denote.Ref.{now}
 use Rattle.params.proofs.Answers.{kept, done}
-use Rattle.tlwe.specs.Plain.{plainNumber, plainWord}
+use Rattle.tlwe.specs.Plain.{plainWord}
+use Rattle.tlwe.specs.Private.{plainNumber}
 use Rattle.tlwe.proofs.Refusals.{key-then, key-before}
 use Rattle.tlwe.proofs.Phases.{fresh-written}
 use borrow.Author.Needs.{needs}

@@ -1,7 +1,9 @@
 -- `tlwe::keys::inner` meets its contract: a loop that sums and that or-s the key's words together.
 -- Assumes nothing.
 use Prim.Native.Nat.{ℕ, _≤_, _-_, _*_, _%_}
-use mathlib.Core.Path.{_≡_, sym, ap, _∙_}
+use mathlib.Core.Path.{_≡_, ap, _∙_}
+use mathlib.Core.Bool.{Bool}
+use Rattle.params.specs.Refusal.{check}
 use native.Mathlib.Nat.{mod-mod}
 use native.Mathlib.Omega.{arith}
 use borrow.Author.Needs.{needs}
@@ -38,7 +40,7 @@ unfolding inner
 returns c =
     let b = c .before .before .loop in (
       sum-done _ (b .inv .0) (c .before .loop-test .left) (b .inv .1),
-      c .seen-number .ensures ∙ key-done (c .before .before .before .before .before .args .key .now) (b .i) (b .seen) (omega arith) (b .inv .2),
+      c .also .ensures ∙ ap (λ (t : Bool). check t 4 0) (key-done (c .before .before .before .before .before .args .key .now) (b .i) (b .seen) (omega arith) (b .inv .2)),
     )
 
 pub inner-spec : {M : Type 1} → statement M

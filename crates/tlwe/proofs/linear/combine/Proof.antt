@@ -1,7 +1,6 @@
 -- `tlwe::linear::combine` meets its contract: the loop's content is the sum of the two multiples, and a refusal keeps what was lent.
 -- Assumes nothing.
 use mathlib.Core.Path.{_≡_, refl, sym, ap, _∙_}
-use mathlib.Core.List.{List}
 use Prim.Native.Nat.{ℕ, _+_, _*_, _%_}
 use lib.ListN.{length}
 use denote.Ref.{now}

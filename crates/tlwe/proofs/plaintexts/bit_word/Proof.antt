@@ -1,6 +1,6 @@
 -- `tlwe::plaintexts::bit_word` meets its contract: 2^32 - 2^29 is 0xE0000000.
 -- Assumes nothing.
-use mathlib.Core.Path.{_≡_, refl, sym, ap, _∙_}
+use mathlib.Core.Path.{_≡_, sym, ap, _∙_}
 use Rattle.ring.specs.Word.{Q}
 use Rattle.tlwe.specs.Plain.{bitWord}
 use borrow.Author.Needs.{needs}

@@ -1,7 +1,7 @@
 -- `tlwe::plaintexts::plain_number` meets its contract: by cases.
 -- Assumes nothing.
 use mathlib.Core.Path.{_≡_, sym, ap, _∙_}
-use Rattle.tlwe.specs.Plain.{plainNumber}
+use Rattle.tlwe.specs.Private.{plainNumber}
 use borrow.Author.Needs.{needs}
 use Rattle.tlwe.proofs.plaintexts.plain_number.Statement.{statement}
 use Rattle.tlwe.proofs.plaintexts.plain_number.Tie as tie

@@ -1,7 +1,8 @@
 -- `tlwe::plaintexts::plain_word` meets its contract: by cases.
 -- Assumes nothing.
 use mathlib.Core.Path.{_≡_, sym, ap, _∙_}
-use Rattle.tlwe.specs.Plain.{plainNumber, plainWord}
+use Rattle.tlwe.specs.Plain.{plainWord}
+use Rattle.tlwe.specs.Private.{plainNumber}
 use borrow.Author.Needs.{needs}
 use Rattle.tlwe.proofs.plaintexts.plain_word.Statement.{statement}
 use Rattle.tlwe.proofs.plaintexts.plain_word.Tie as tie

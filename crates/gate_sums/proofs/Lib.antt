@@ -1,0 +1,5 @@
+pub mod Sums
+pub mod Tables
+pub mod Checks
+pub mod Uses
+pub mod Determined

@@ -1,0 +1,4 @@
+pub mod Thin
+pub mod Making
+pub mod Views
+pub mod Determined

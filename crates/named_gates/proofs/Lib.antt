@@ -1,0 +1,4 @@
+pub mod Chain
+pub mod Checks
+pub mod Uses
+pub mod Determined

@@ -1,0 +1,4 @@
+pub mod Checks
+pub mod Chain
+pub mod Uses
+pub mod Determined

@@ -1,0 +1,6 @@
+pub mod Made
+pub mod Needs
+pub mod Meanings
+pub mod Ciphers
+pub mod Checks
+pub mod Determined

@@ -1,0 +1,4 @@
+pub mod Ways
+pub mod Refusals
+pub mod Ciphers
+pub mod Private
