@@ -17,10 +17,11 @@ use Rattle.rotation.specs.Amount.{half, step, maskAmount}
 use Rattle.decomposition.specs.Digit.{digitOf, digitPoly}
 use Rattle.decomposition.specs.Pair.{pairDigit}
 use Rattle.trgsw.specs.External.{rowA, rowB, external, cmuxOf}
-use Rattle.blind_rotation.specs.Blind.{turned, bitRows, blindStep, stepsTo}
+use Rattle.blind_rotation.specs.Blind.{turned, blindStep, stepsTo}
 use Rattle.blind_rotation.proofs.Steps.{pair}
 use Rattle.ring.specs.Pair.{Pair}
 use Rattle.ring.specs.Lists.{part}
+use Rattle.key.specs.Bits.{bitRows}
 
 -- n 2, N 2, BGBIT 8, L 1
 abbrev two : Params

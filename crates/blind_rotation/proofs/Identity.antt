@@ -25,10 +25,11 @@ use Rattle.params.proofs.Ranges.{size-from}
 use Rattle.rotation.specs.Amount.{maskAmount, bodyAmount}
 use Rattle.rotation.proofs.Amounts.{mask-below, body-to}
 use Rattle.trgsw.specs.Errors.{digitErrors, lowPoly}
-use Rattle.blind_rotation.specs.Blind.{turned, bitRows, blindStep, stepsTo, startOf, blindRotated}
+use Rattle.blind_rotation.specs.Blind.{turned, blindStep, stepsTo, startOf, blindRotated}
 use Rattle.blind_rotation.specs.Drift.{complementWords, stepMoved, driftStep, driftTo, turnTo}
 use Rattle.blind_rotation.proofs.Phase.{step-phase-zero, step-phase-one}
 use Rattle.ring.specs.Pair.{Pair}
+use Rattle.key.specs.Bits.{bitRows}
 
 -- ---- regrouping
 

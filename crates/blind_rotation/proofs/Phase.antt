@@ -19,9 +19,10 @@ use Rattle.rotation.proofs.Amounts.{mask-below}
 use Rattle.trgsw.specs.External.{external, cmuxOf}
 use Rattle.trgsw.specs.Errors.{digitErrors, lowPoly}
 use Rattle.trgsw.proofs.Phase.{external-phase, cleared-less}
-use Rattle.blind_rotation.specs.Blind.{turned, bitRows, blindStep}
+use Rattle.blind_rotation.specs.Blind.{turned, blindStep}
 use Rattle.blind_rotation.specs.Drift.{stepMoved}
 use Rattle.ring.specs.Pair.{Pair, pairMinus}
+use Rattle.key.specs.Bits.{bitRows}
 
 module _ (p : Params) (r : InRange p) (z rows : List ℕ) (k : ℕ) (lk : k ≤ size p + size p) (x : Pair) where
   abbrev N : ℕ

@@ -14,7 +14,7 @@ use Rattle.params.specs.Ranges.{paramsNumber}
 use Rattle.params.specs.Sizes.{size, bitWords, bootstrappingWords}
 use Rattle.params.proofs.Answers.{when-done}
 use Rattle.key.specs.Testvec.{testNumber, testPair}
-use Rattle.key.specs.Bits.{bitRowsNumber}
+use Rattle.key.specs.Bits.{bitRowsNumber, bitRows}
 use Rattle.key.proofs.Checks.{test-done, bit-done}
 use Rattle.ring.proofs.Places.{length-minus}
 use Rattle.rotation.specs.declared.Rounded.{Rounded}
@@ -23,7 +23,7 @@ use Rattle.rotation.proofs.Amounts.{rounded-done}
 use Rattle.trgsw.specs.External.{external, cmuxOf}
 use Rattle.trgsw.specs.Refusals.{externalNumber, externalAddOut}
 use Rattle.trgsw.proofs.Checks.{external-done}
-use Rattle.blind_rotation.specs.Blind.{turned, bitRows, blindStep, stepsTo, startOf}
+use Rattle.blind_rotation.specs.Blind.{turned, blindStep, stepsTo, startOf}
 use Rattle.ring.specs.Pair.{Pair, pairPlus, pairMinus}
 
 -- two polynomials as a pair

@@ -5,11 +5,10 @@ use Rattle.ring.specs.Word.{at}
 use Rattle.ring.specs.Turn.{rotated}
 use Rattle.params.specs.declared.Params.{Params}
 use Rattle.params.specs.Sizes.{size}
-use Rattle.key.specs.Testvec.{testPair}
-unfoldable pub use Rattle.key.specs.Bits.{bitRows}
 use Rattle.rotation.specs.Amount.{maskAmount, bodyAmount}
 use Rattle.trgsw.specs.External.{cmuxOf}
 use Rattle.ring.specs.Pair.{Pair}
+use Rattle.key.specs.Bits.{bitRows}
 
 -- A pair turned by k: both of its polynomials rotated, as the Rust rotates (01, trgsw: complemented, not negated).
 unfoldable pub turned : Params → ℕ → Pair → Pair

@@ -11,8 +11,9 @@ use Rattle.params.specs.declared.Params.{Params}
 use Rattle.params.specs.Sizes.{size}
 use Rattle.rotation.specs.Amount.{maskAmount, bodyAmount}
 use Rattle.trgsw.specs.Errors.{digitErrors, lowPoly}
-use Rattle.blind_rotation.specs.Blind.{turned, bitRows, stepsTo, startOf}
+use Rattle.blind_rotation.specs.Blind.{turned, stepsTo, startOf}
 use Rattle.ring.specs.Pair.{Pair, pairMinus}
+use Rattle.key.specs.Bits.{bitRows}
 
 -- W(k)·z - W(k): what complementing adds to the phase of a pair turned by k.
 unfoldable pub complementWords : Params → List ℕ → ℕ → List ℕ

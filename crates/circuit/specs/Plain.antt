@@ -1,5 +1,4 @@
 -- The plain meaning of a circuit and its work (01, 'Circuits').
-use mathlib.Core.Bool.{Bool, true, false, not, cond}
 use mathlib.Core.List.{List, [], _∷_, _++_}
 use Prim.Native.Nat.{ℕ, zero, suc, _+_}
 use lib.Dec.{eqb}

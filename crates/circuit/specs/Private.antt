@@ -1,4 +1,4 @@
--- What only the crate's own routines and proofs need: answers to parts of what is read.
+-- What only routines and proofs need, here and in the crates above: answers to parts of what is read.
 use mathlib.Core.Bool.{Bool, cond}
 use mathlib.Core.List.{List}
 use Prim.Native.Nat.{ℕ}

@@ -26,11 +26,10 @@ use Rattle.decomposition.specs.Digit.{digitOf, digitPoly, digitWeight}
 use Rattle.decomposition.specs.Pair.{pairDigit}
 use Rattle.trgsw.specs.External.{rowA, rowB, external, cmuxOf}
 use Rattle.trgsw.specs.Errors.{lowPoly}
-use Rattle.blind_rotation.specs.Blind.{turned, bitRows, blindStep, stepsTo, startOf, blindRotated}
+use Rattle.blind_rotation.specs.Blind.{turned, blindStep, stepsTo, startOf, blindRotated}
 use Rattle.switching.specs.Switched.{rounding, rounded, maskField, usedRow, maskRows, switched}
 use Rattle.switching.specs.Drift.{dropped}
 use Rattle.gate_sums.specs.Sum.{summed, muxSum, constantOf}
-use Rattle.gates.specs.Gate.{rotatedSample}
 use Rattle.circuit.specs.Form.{fieldAt as byteField}
 use Rattle.ways.specs.Ways.{ways, wayOf, rotationsOf, rotationSum, samplesOf, made, ran}
 use Rattle.ways.specs.Ciphers.{cipherAt}
@@ -40,6 +39,8 @@ use Rattle.drift.specs.Whole.{inside, freshDrift, shouldCarry, bootstrap
 use Rattle.drift.specs.Circuit.{wayDrift, wayBrought, gateDriftOn, gateBroughtOn, freshTo, driftsTo, broughtTo, driftsOf, broughtOf, outputDriftsTo, allOf, allInside}
 use Rattle.drift.proofs.Examples.{junk}
 use Rattle.ring.specs.Lists.{joined, part}
+use Rattle.key.specs.Bits.{bitRows}
+use Rattle.samples.specs.Sample.{rotatedSample}
 
 -- ---- one nand
 

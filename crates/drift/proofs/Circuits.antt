@@ -32,9 +32,10 @@ use Rattle.encrypted_run.specs.Run.{gateCipher, ciphersTo}
 use Rattle.ways.proofs.Ciphers.{wire-within, cipher-front, cipher-next}
 use Rattle.ways.proofs.Needs.{ways-need}
 use Rattle.ways.proofs.Meanings.{ways-mean}
-use Rattle.encrypted_run.proofs.Wires.{gate-length, ciphers-length}
-use Rattle.drift.specs.Words.{freshWord}
-use Rattle.drift.specs.CircuitWords.{gateWordOn, gateBroughtWords, freshWords, driftWordsTo, broughtWordsTo, allWords}
+use Rattle.encrypted_run.proofs.Wires.{gate-length}
+use Rattle.encrypted_run.proofs.Laws.{ciphers-fill}
+use Rattle.drift.specs.PrivateWords.{freshWord}
+use Rattle.drift.specs.PrivateCircuit.{gateWordOn, gateBroughtWords, freshWords, driftWordsTo, broughtWordsTo, allWords}
 use Rattle.drift.proofs.Ways.{all-both, way-means}
 use Rattle.ring.specs.Bit.{truth, bitNumber}
 
@@ -74,9 +75,6 @@ module _ (p : Params) (r : InRange p) (key z : List ℕ) (binary-key : binary ke
   bits-length : (g : ℕ) → length (vs g) ≡ inputs bs + g
   bits-length g = length-wires bs (inputBits bs plain) g ∙ ap (λ (k : ℕ). k + g) (length-tab (inputs bs) (λ i. bitNumber (truth (at plain i))))
 
-  ciphers-fill : (g : ℕ) → length (cs g) ≡ (inputs bs + g) * (p .n + 1)
-  ciphers-fill g = let e = ciphers-length p ksk bsk bs ins g in omega (arith, e, li)
-
   -- wire w, after g gates, carries its bit with its drift
   abbrev Holds : ℕ → ℕ → Type 0
   Holds g w = phaseOf (p .n) key (cipherAt p (cs g) w) ≡ (bitWord (truth (at (vs g) w)) + at (ds g) w) % Q
@@ -97,7 +95,7 @@ module _ (p : Params) (r : InRange p) (key z : List ℕ) (binary-key : binary ke
     earlier w h e =
         let a : w + 1 ≤ inputs bs + g = omega arith in
         let b = wire-within p w (inputs bs + g) a in
-        ap (phaseOf (p .n) key) (cipher-front p (cs g) (gateCipher p ksk bsk bs (cs g) g) w (omega (arith, b, ciphers-fill g)))
+        ap (phaseOf (p .n) key) (cipher-front p (cs g) (gateCipher p ksk bsk bs (cs g) g) w (omega (arith, b, ciphers-fill p ksk bsk bs ins li g)))
         ∙ e
         ∙ ap₂ (λ (x y : ℕ). (bitWord (truth x) + y) % Q)
         (sym (List·getD-append (vs g) (gateBit bs (vs g) g ∷ []) 0 w (omega (arith, bits-length g))))
@@ -123,7 +121,7 @@ module _ (p : Params) (r : InRange p) (key z : List ℕ) (binary-key : binary ke
       own : Holds (suc g) (inputs bs + g)
       unfolding ciphersTo wiresTo driftWordsTo
       own =
-          ap (phaseOf (p .n) key) (cipher-next p (cs g) (gateCipher p ksk bsk bs (cs g) g) (inputs bs + g) (ciphers-fill g) (gate-length p ksk bsk bs (cs g) g))
+          ap (phaseOf (p .n) key) (cipher-next p (cs g) (gateCipher p ksk bsk bs (cs g) g) (inputs bs + g) (ciphers-fill p ksk bsk bs ins li g) (gate-length p ksk bsk bs (cs g) g))
           ∙ means
           ∙ ap₂ (λ (x y : ℕ). (bitWord (truth x) + y) % Q)
           (sym (getD-at (vs g) (gateBit bs (vs g) g) [] 0 (inputs bs + g) (bits-length g)))

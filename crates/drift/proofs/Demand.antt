@@ -24,9 +24,8 @@ use Rattle.circuit.proofs.Laws.{output-wire as plain-output}
 use Rattle.ways.specs.Ciphers.{cipherAt}
 use Rattle.encrypted_run.specs.Run.{ciphersOf, outputCiphers}
 use Rattle.encrypted_run.proofs.Laws.{output-wire}
-use Rattle.drift.specs.Words.{insideWord}
 use Rattle.drift.specs.Circuit.{driftAt, driftsOf, broughtOf, outputDriftsTo, allOf, allInside}
-use Rattle.drift.specs.CircuitWords.{driftWordsTo, allWords, outputWords}
+use Rattle.drift.specs.PrivateCircuit.{driftWordsTo, allWords, outputWords}
 use Rattle.drift.proofs.Residues.{is-add, is-word, is-only}
 use Rattle.drift.proofs.Phases.{both}
 use Rattle.drift.proofs.Round.{inside-decrypts}
@@ -35,6 +34,7 @@ use Rattle.drift.proofs.Suffice.{is-bit}
 use Rattle.drift.proofs.Lists.{word-at, at-below, all-reckoned, drifts-reckoned, brought-reckoned, outputs-reckoned}
 use Rattle.ring.specs.Bit.{truth}
 use Rattle.ring.specs.Phase.{phaseOf}
+use Rattle.drift_size.specs.Size.{insideWord}
 
 -- where all are inside, the one at a place is; past the end it is 0
 all-at : (ns : List ℕ) → allWords ns ≡ true → (i : ℕ) → insideWord (at ns i) ≡ true

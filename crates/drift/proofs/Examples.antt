@@ -21,17 +21,18 @@ use Rattle.decomposition.specs.Digit.{digitOf, digitPoly, digitWeight}
 use Rattle.decomposition.specs.Pair.{pairDigit}
 use Rattle.trgsw.specs.External.{rowA, rowB, external, cmuxOf}
 use Rattle.trgsw.specs.Errors.{lowPoly}
-use Rattle.blind_rotation.specs.Blind.{turned, bitRows, blindStep, stepsTo, startOf, blindRotated}
+use Rattle.blind_rotation.specs.Blind.{turned, blindStep, stepsTo, startOf, blindRotated}
 use Rattle.switching.specs.Switched.{rounding, rounded, maskField}
 use Rattle.switching.specs.Drift.{dropped}
 use Rattle.gate_sums.specs.declared.Kind.the-variants.{Xor}
 use Rattle.gate_sums.specs.Sum.{muxSum}
-use Rattle.gates.specs.Gate.{rotatedSample}
 use Rattle.drift.specs.Polynomials.{centred, wholeSum, wholeTimes, wholeTurn, wholePhase, wholePairPhase}
 use Rattle.drift.specs.Whole.{inside, freshDrift, shouldCarry, bootstrappingError, switchingError, remainder, broughtIn, complementsDrift, rowsDrift, stepDrift, rotationDrift, extractedDrift, switchedDrift, gateDrift, muxDrift}
 use Rattle.drift.specs.Circuit.{worse, worstFrom, worstOf}
-use Rattle.drift.specs.Words.{insideWord}
 use Rattle.ring.specs.Lists.{part}
+use Rattle.key.specs.Bits.{bitRows}
+use Rattle.samples.specs.Sample.{rotatedSample}
+use Rattle.drift_size.specs.Size.{insideWord}
 
 -- ---- by hand
 

@@ -1,4 +1,4 @@
--- The lists of a circuit's drifts in whole numbers (specs/Circuit.antt) are those in words (specs/CircuitWords.antt): each element by `words-suffice`, a gate by cases on its
+-- The lists of a circuit's drifts in whole numbers (specs/Circuit.antt) are those in words (specs/PrivateCircuit.antt): each element by `words-suffice`, a gate by cases on its
 -- way, a run by induction on its gates. So what the words tell, whether all are inside and which is worst, holds of the whole numbers.
 -- Assumes nothing.
 use mathlib.Core.Path.{_≡_, refl, sym, ap, ap₂, subst, _∙_}
@@ -23,12 +23,13 @@ use Rattle.ways.specs.Ways.{Rotation, wayOf, operand, rotationsOf, rotationSum}
 use Rattle.ways.specs.Ciphers.{cipherAt}
 use Rattle.encrypted_run.specs.Run.{ciphersTo}
 use Rattle.drift.specs.Whole.{inside, freshDrift, broughtIn, gateDrift}
-use Rattle.drift.specs.Words.{insideWord, freshWord, broughtWord}
+use Rattle.drift.specs.PrivateWords.{freshWord, broughtWord}
 use Rattle.drift.specs.Circuit.{wayDrift, wayBrought, driftAt, gateDriftOn, gateBroughtOn, freshTo, driftsTo, broughtTo, driftsOf, outputDriftsTo, allOf, worse, worstFrom, worstOf, allInside}
-use Rattle.drift.specs.CircuitWords.{wayWord, wayBroughtWords, gateWordOn, gateBroughtWords, freshWords, driftWordsTo, broughtWordsTo, allWords, outputWords, worseWord, worstWords}
+use Rattle.drift.specs.PrivateCircuit.{wayWord, wayBroughtWords, gateWordOn, gateBroughtWords, freshWords, driftWordsTo, broughtWordsTo, allWords, outputWords, worstWords}
 use Rattle.drift.proofs.Residues.{word-below}
 use Rattle.drift.proofs.Suffice.{Reckoned, reckoned, centred-back, word-centred, fresh-word, brought-word, gate-word, words-suffice}
 use Rattle.ring.specs.Bit.{truth}
+use Rattle.drift_size.specs.Size.{insideWord, worseWord}
 
 -- ---- lists
 

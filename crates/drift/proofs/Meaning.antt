@@ -19,14 +19,16 @@ use Rattle.gate_sums.specs.declared.Kind.{Kind}
 use Rattle.gate_sums.specs.declared.Kind.the-variants.{Or, And, AndNy}
 use Rattle.gate_sums.specs.Kind.{meaning, sumOf, standsFor}
 use Rattle.gate_sums.specs.Sum.{summed, muxSum}
-use Rattle.gates.specs.Gate.{rotatedSample, bootstrapped, gated, muxed, muxedNaive}
-use Rattle.drift.specs.Words.{roundingWord, broughtWord, insideWord, extractedWord, gateWord, muxWord}
+use Rattle.gates.specs.Gate.{bootstrapped, gated, muxed, muxedNaive}
+use Rattle.drift.specs.PrivateWords.{roundingWord, broughtWord, extractedWord, gateWord, muxWord}
 use Rattle.gate_sums.proofs.Tables.{table}
-use Rattle.drift.specs.Short.{sideOf}
+use Rattle.drift.specs.PrivateShort.{sideOf}
 use Rattle.drift.proofs.Round.{side-is}
 use Rattle.drift.proofs.Sides.{gate-side, mux-side}
 use Rattle.drift.proofs.Phases.{brought, not-drift}
 use Rattle.ring.specs.Phase.{phaseOf}
+use Rattle.samples.specs.Sample.{rotatedSample}
+use Rattle.drift_size.specs.Size.{insideWord}
 
 either : (va vb vc : Bool) → meaning Or (va && vb) (not va && vc) ≡ cond va vb vc
 either true true vc = refl

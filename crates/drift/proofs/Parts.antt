@@ -26,16 +26,17 @@ use Rattle.decomposition.specs.Digit.{digitWeight, digitOf, digitPoly}
 use Rattle.decomposition.specs.Pair.{pairDigit}
 use Rattle.trgsw.specs.External.{rowA, rowB}
 use Rattle.trgsw.specs.Errors.{bootstrappingRowError, digitErrors, lowPoly}
-use Rattle.blind_rotation.specs.Blind.{bitRows, stepsTo, startOf}
+use Rattle.blind_rotation.specs.Blind.{stepsTo, startOf}
 use Rattle.blind_rotation.specs.Drift.{complementWords, stepMoved, driftStep, driftTo}
 use Rattle.switching.specs.Switched.{rounding, maskField}
 use Rattle.switching.specs.Drift.{dropped, used, usedErrors, roundedBy, switchingDrift}
 use Rattle.drift.specs.Polynomials.{wholeSum, wholes, signeds, wholeTimes, wholeTurn, wholePairPhase}
 use Rattle.drift.specs.Whole.{shouldCarry, bootstrappingError, switchingError, remainder, complementsDrift, rowsDrift, stepDrift, rotationDrift, extractedDrift, switchedDrift}
-use Rattle.drift.specs.Words.{remainderWord, selectedWord, extractedWord}
+use Rattle.drift.specs.PrivateWords.{remainderWord, selectedWord, extractedWord}
 use Rattle.drift.proofs.Residues.{Is, is-pos, is-add, is-times, is-neg, is-minus, is-same, is-mod, is-sum, is-centre, is-centred, Are, are-wholes, are-tab, are-plus, are-minus, are-times, are-turned, are-total, is-phase, are-phase}
 use Rattle.ring.specs.Pair.{Pair}
 use Rattle.key.specs.Testvec.{testPair}
+use Rattle.key.specs.Bits.{bitRows}
 
 -- ---- remainders
 

@@ -21,8 +21,8 @@ use Rattle.ways.specs.Ciphers.{cipherAt}
 use Rattle.encrypted_run.specs.Run.{gateCipher, ciphersTo, ciphersOf}
 use Rattle.ways.proofs.Needs.{known-way}
 use Rattle.encrypted_run.proofs.Laws.{operand-before, constant, operand-wire, gate-wire}
-use Rattle.drift.specs.CircuitWords.{wayWord, wayBroughtWords, gateWordOn, gateBroughtWords, freshWords, driftWordsTo, broughtWordsTo}
-use Rattle.drift.specs.Short.{shortWord, shortGate, shortTo, shortBroughtTo}
+use Rattle.drift.specs.PrivateCircuit.{wayWord, wayBroughtWords, gateWordOn, gateBroughtWords, freshWords, driftWordsTo, broughtWordsTo}
+use Rattle.drift.specs.PrivateShort.{shortWord, shortGate, shortTo, shortBroughtTo}
 use Rattle.drift.proofs.Short.{short-is}
 
 module _ (p : Params) (r : InRange p) (key z : List ℕ) (binary-key : binary key ≡ true) (ksk bsk bs ins : List ℕ)

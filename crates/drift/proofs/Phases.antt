@@ -4,16 +4,14 @@
 use mathlib.Core.Path.{_≡_, refl, sym, ap, ap₂, _∙_}
 use mathlib.Core.Bool.{Bool, true, false, not, cond}
 use mathlib.Core.List.{List, [], _∷_}
-use Prim.Native.Nat.{ℕ, zero, suc, _+_, _*_, _-_, _%_, _^_, _≤_, _<_}
-use native.Mathlib.Nat.{zero-mul, add-mod, mod-add-mod}
+use Prim.Native.Nat.{ℕ, zero, suc, _+_, _*_, _-_, _%_, _≤_}
+use native.Mathlib.Nat.{add-mod, mod-add-mod}
 use native.Mathlib.Omega.{arith}
-use lib.Dec.{eqb, leb, lit<}
-use borrow.Author.Tests.{eq-eqb, ne-eqb, leb-true}
+use lib.Dec.{leb}
+use borrow.Author.Tests.{leb-true}
 use Rattle.ring.specs.Word.{Q, at, neg, eighth}
 use Rattle.ring.specs.Poly.{plus, scale}
-use Rattle.ring.specs.Phase.{inner, phaseOf, trivial}
-use Rattle.ring.proofs.Tab.{at-tab}
-use Rattle.ring.proofs.SumLaws.{sum-ext, sum-zero}
+use Rattle.ring.specs.Phase.{phaseOf, trivial}
 use Rattle.ring.proofs.Words.{mul-mod-r}
 use Rattle.params.specs.declared.Params.{Params}
 use Rattle.params.specs.Sizes.{size}
@@ -21,11 +19,12 @@ use Rattle.tlwe.specs.Key.{binary}
 use Rattle.tlwe.specs.Plain.{bitWord}
 use Rattle.tlwe.specs.Linear.{negative}
 use Rattle.tlwe.proofs.Phases.{phase-combine, phase-add, phase-neg}
+use Rattle.switching.proofs.Sums.{phase-trivial}
 use Rattle.gate_sums.specs.declared.Kind.{Kind}
 use Rattle.gate_sums.specs.Kind.{sumOf}
 use Rattle.gate_sums.specs.Weights.{weightsOf}
 use Rattle.gate_sums.specs.Sum.{summed, muxSum, constantWord, constantOf}
-use Rattle.drift.specs.Words.{roundingWord, broughtWord}
+use Rattle.drift.specs.PrivateWords.{roundingWord, broughtWord}
 use Rattle.gate_sums.proofs.Tables.{sum-words}
 
 -- ---- keys
@@ -43,22 +42,13 @@ key-bit (k ∷ ks) e (suc i) = key-bit ks (both (leb k 1) (binary ks) e .1) i
 
 -- ---- the sums
 
--- the phase of a trivial sample is its word
-trivial-phase : (d : ℕ) (key : List ℕ) (c : ℕ) → phaseOf d key (trivial d c) ≡ c % Q
-unfolding phaseOf inner trivial neg Q
-trivial-phase d key c =
-    ap₂ (λ (x y : ℕ). (x + (2 ^ 32 - y % 2 ^ 32)) % 2 ^ 32) (at-tab (d + 1) (λ i. cond (eqb i d) c 0) d (omega arith) ∙ ap (λ (b : Bool). cond b c 0) (eq-eqb d d refl))
-    (sum-ext d _ (λ i. 0) (λ i l. ap (λ (x : ℕ). x * at key i) (at-tab (d + 1) (λ i. cond (eqb i d) c 0) i (omega arith)
-    ∙ ap (λ (b : Bool). cond b c 0) (ne-eqb i d (λ e. let q : ⊥ = omega arith in q))) ∙ zero-mul (at key i)) ∙ sum-zero d)
-    ∙ (let q : (c + (2 ^ 32 - 0 % 2 ^ 32)) % 2 ^ 32 ≡ c % 2 ^ 32 = omega arith in q)
-
 word-added : (s c : ℕ) → (s + c % Q) % Q ≡ (s + c) % Q
 unfolding Q
 word-added s c = omega arith
 
 -- a trivial sample added to a ciphertext: its word is added to the phase
 added-phase : (d : ℕ) (key l : List ℕ) (c : ℕ) → phaseOf d key (plus (d + 1) l (trivial d c)) ≡ (phaseOf d key l + c) % Q
-added-phase d key l c = phase-add d key l (trivial d c) ∙ ap (λ (t : ℕ). (phaseOf d key l + t) % Q) (trivial-phase d key c) ∙ word-added (phaseOf d key l) c
+added-phase d key l c = phase-add d key l (trivial d c) ∙ ap (λ (t : ℕ). (phaseOf d key l + t) % Q) (phase-trivial d key c) ∙ word-added (phaseOf d key l) c
 
 -- the sum of a kind
 pub sum-phase : (p : Params) (kind : Kind) (key a b : List ℕ) → phaseOf (p .n) key (summed p kind a b)
@@ -89,7 +79,7 @@ sum-parts x y s t u w c e f =
 apart : (x y A B da db c : ℕ) → ((x * ((A + da) % Q) + y * ((B + db) % Q)) % Q + c) % Q ≡ ((x * A + y * B + c) % Q + (x * da + y * db)) % Q
 apart x y A B da db c = sum-parts (x * ((A + da) % Q)) (y * ((B + db) % Q)) (x * A) (y * B) (x * da) (y * db) c (times-sum x A da) (times-sum y B db)
 
-together : (e d r : ℕ) → ((e + d) % Q + r) % Q ≡ (e + (d + r) % Q) % Q
+pub together : (e d r : ℕ) → ((e + d) % Q + r) % Q ≡ (e + (d + r) % Q) % Q
 unfolding Q
 together e d r = omega arith
 
@@ -127,4 +117,4 @@ constant-word false = refl
 -- the constants: true has the drift 0, false the drift 1
 pub constant-drift : (p : Params) (key : List ℕ) (v : Bool) → phaseOf (p .n) key (constantOf p v) ≡ (bitWord v + cond v 0 1) % Q
 unfolding constantOf
-constant-drift p key v = trivial-phase (p .n) key (constantWord v) ∙ constant-word v
+constant-drift p key v = phase-trivial (p .n) key (constantWord v) ∙ constant-word v

@@ -34,8 +34,9 @@ use Rattle.tlwe.proofs.Inverse.{inside-cases, bit-back}
 use Rattle.blind_rotation.specs.Drift.{turnTo}
 use Rattle.gate_sums.specs.Kind.{standsFor}
 use Rattle.blind_rotation.proofs.Start.{turn-sum}
-use Rattle.drift.specs.Short.{sideOf}
-use Rattle.drift.specs.Words.{remainderWord, selectedWord, roundingWord, insideWord}
+use Rattle.drift.specs.PrivateShort.{sideOf}
+use Rattle.drift.specs.PrivateWords.{remainderWord, selectedWord, roundingWord}
+use Rattle.drift_size.specs.Size.{insideWord}
 
 source-below : (N k i : ℕ) → 0 < N → source N k i < N + N
 unfolding source

@@ -19,9 +19,9 @@ use Rattle.ways.specs.declared.Way.{Way}
 use Rattle.ways.specs.declared.Way.the-variants.{Known, Negated, Gate, NegatedGate, Choice}
 use Rattle.ways.specs.Ways.{ran}
 use Rattle.ways.proofs.Made.{ran-gate, ran-negated-gate, ran-choice}
-use Rattle.drift.specs.Words.{gateWord, muxWord}
-use Rattle.drift.specs.CircuitWords.{wayWord}
-use Rattle.drift.specs.Short.{sideOf, carriedWord, shortWord}
+use Rattle.drift.specs.PrivateWords.{gateWord, muxWord}
+use Rattle.drift.specs.PrivateCircuit.{wayWord}
+use Rattle.drift.specs.PrivateShort.{sideOf, carriedWord, shortWord}
 use Rattle.drift.proofs.Sides.{gate-side, mux-side}
 use Rattle.ring.specs.Phase.{phaseOf}
 

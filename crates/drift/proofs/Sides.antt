@@ -27,17 +27,13 @@ use Rattle.switching.specs.Drift.{switchingDrift}
 use Rattle.switching.proofs.Phase.{switching-phase}
 use Rattle.gate_sums.specs.declared.Kind.the-variants.{And, AndNy}
 use Rattle.gate_sums.specs.Sum.{summed, muxSum}
-use Rattle.gates.specs.Gate.{rotatedSample, bootstrapped, muxed}
-use Rattle.gate_sums.proofs.Sums.{at-plus}
-use Rattle.drift.specs.Short.{sideOf}
-use Rattle.drift.specs.Words.{extractedWord, gateWord, muxWord}
+use Rattle.gates.specs.Gate.{bootstrapped, muxed}
+use Rattle.ring.proofs.Places.{at-plus}
+use Rattle.drift.specs.PrivateShort.{sideOf}
+use Rattle.drift.specs.PrivateWords.{extractedWord, gateWord, muxWord}
 use Rattle.drift.proofs.Track.{tracked}
-use Rattle.drift.proofs.Phases.{key-bit, mux-phase}
-
--- a drift behind a bit
-behind : (b d s : ℕ) → ((b + d) % Q + s) % Q ≡ (b + (d + s) % Q) % Q
-unfolding Q
-behind b d s = omega arith
+use Rattle.drift.proofs.Phases.{key-bit, together, mux-phase}
+use Rattle.samples.specs.Sample.{rotatedSample}
 
 flatten : (x y c s : ℕ) → (((x % Q + y % Q) % Q + c) % Q + s) % Q ≡ (x + y + c + s) % Q
 flatten x y c s =
@@ -73,7 +69,7 @@ module _ (p : Params) (r : InRange p) (key z : List ℕ) (binary-key : binary ke
       phase-extracted N (size-from p) 0 z (blindRotated p bsk src (testPair p) .a) (blindRotated p bsk src (testPair p) .b) (size-from p)
       ∙ ap (λ (t : ℕ). (t + after N 0 z) % Q)
       (ap (λ (u : List ℕ). at u 0) (tracked p r key z bsk src (key-bit key binary-key)) ∙ at-plus N _ d 0 (size-from p) ∙ ap (λ (t : ℕ). (t + at d 0) % Q) (side-front p key src))
-      ∙ behind (bitWord (sideOf p key src)) (at d 0) (after N 0 z)
+      ∙ together (bitWord (sideOf p key src)) (at d 0) (after N 0 z)
 
   -- a gate
   pub gate-side : (src : List ℕ) → phaseOf (p .n) key (bootstrapped p bsk ksk src) ≡ (bitWord (sideOf p key src) + gateWord p key z ksk bsk src) % Q
@@ -81,7 +77,7 @@ module _ (p : Params) (r : InRange p) (key z : List ℕ) (binary-key : binary ke
   gate-side src =
       switching-phase p r z (rotatedSample p bsk src) key ksk
       ∙ ap (λ (t : ℕ). (t + switchingDrift p key z ksk (rotatedSample p bsk src)) % Q) (extracted-side src)
-      ∙ behind (bitWord (sideOf p key src)) (extractedWord p key z bsk src) (switchingDrift p key z ksk (rotatedSample p bsk src))
+      ∙ together (bitWord (sideOf p key src)) (extractedWord p key z bsk src) (switchingDrift p key z ksk (rotatedSample p bsk src))
 
   -- `mux`
   pub mux-side : (a b c : List ℕ) → let s1 = summed p And a b in

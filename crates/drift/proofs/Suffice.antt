@@ -17,13 +17,14 @@ use Rattle.gate_sums.specs.declared.Kind.{Kind}
 use Rattle.gate_sums.specs.Kind.{rowOf, sign}
 use Rattle.gate_sums.specs.Weights.{weightsOf}
 use Rattle.gate_sums.specs.Sum.{muxSum}
-use Rattle.gates.specs.Gate.{rotatedSample}
 use Rattle.drift.specs.Polynomials.{centred}
 use Rattle.drift.specs.Whole.{inside, freshDrift, broughtIn, extractedDrift, gateDrift, muxDrift}
-use Rattle.drift.specs.Words.{remainderWord, selectedWord, roundingWord, broughtWord, insideWord, extractedWord, gateWord, muxWord, freshWord}
+use Rattle.drift.specs.PrivateWords.{remainderWord, selectedWord, roundingWord, broughtWord, extractedWord, gateWord, muxWord, freshWord}
 use Rattle.drift.proofs.Residues.{Is, is-pos, is-add, is-times, is-neg, is-minus, is-same, is-word, is-only, is-centre, is-centred, is-phase, word-below}
 use Rattle.drift.proofs.Parts.{is-remainder, is-selected, is-extracted, is-switched}
 use Rattle.drift.proofs.Phases.{key-bit}
+use Rattle.samples.specs.Sample.{rotatedSample}
+use Rattle.drift_size.specs.Size.{insideWord}
 
 -- ---- words and centred numbers
 

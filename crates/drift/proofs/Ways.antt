@@ -25,13 +25,14 @@ use Rattle.ways.specs.declared.Way.the-variants.{Known, Negated, Gate, NegatedG
 use Rattle.ways.specs.Ways.{rotationsOf, rotationSum, ran}
 use Rattle.ways.specs.Private.{operandsOf, wayMeaning}
 use Rattle.ways.proofs.Made.{ran-known, ran-negated, ran-gate, ran-negated-gate, ran-choice}
-use Rattle.drift.specs.Words.{broughtWord, insideWord, gateWord, muxWord}
-use Rattle.drift.specs.CircuitWords.{wayWord, wayBroughtWords, allWords}
-use Rattle.drift.specs.Short.{sideOf, carriedWord, shortWord}
+use Rattle.drift.specs.PrivateWords.{broughtWord, gateWord, muxWord}
+use Rattle.drift.specs.PrivateCircuit.{wayWord, wayBroughtWords, allWords}
+use Rattle.drift.specs.PrivateShort.{sideOf, carriedWord, shortWord}
 use Rattle.drift.proofs.Phases.{both, not-drift, constant-drift}
 use Rattle.drift.proofs.Sides.{gate-side, mux-side}
 use Rattle.drift.proofs.Meaning.{gate-means, mux-means}
 use Rattle.ring.specs.Phase.{phaseOf}
+use Rattle.drift_size.specs.Size.{insideWord}
 
 -- ---- all of a list are inside
 

@@ -1,6 +1,6 @@
 pub mod Polynomials
 pub mod Whole
 pub mod Circuit
-pub mod Words
-pub mod CircuitWords
-pub mod Short
+pub mod PrivateWords
+pub mod PrivateCircuit
+pub mod PrivateShort

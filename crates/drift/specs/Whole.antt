@@ -1,8 +1,8 @@
 -- The drift of a gate in whole numbers, sentence by sentence as document 01 has it (section 'Drift'). key and z are the secret keys of level 0 and 1, bsk and ksk the
 -- bootstrapping and the switching key, whose rows may hold anything; src is a sum before rotation.
 -- What it takes from the run itself (the accumulators `stepsTo`, the difference `stepMoved`, its low bits `lowPoly`, the low bits `dropped`, the count `after` of z's ones) are words and counts, read as they are.
-use mathlib.Core.Bool.{Bool, true, false, cond}
-use mathlib.Core.List.{List, [], _∷_, map}
+use mathlib.Core.Bool.{Bool, cond}
+use mathlib.Core.List.{List}
 use Prim.Native.Nat.{ℕ, zero, suc, _+_, _*_, _-_, _/_, _^_}
 use lib.Dec.{eqb, ltb}
 use lib.IntN.{ℤ, pos, negℤ, natAbs, _+ℤ_, _-ℤ_, _*ℤ_}
@@ -17,17 +17,18 @@ use Rattle.decomposition.specs.Digit.{digitWeight}
 use Rattle.decomposition.specs.Pair.{pairDigit}
 use Rattle.trgsw.specs.External.{rowA, rowB}
 use Rattle.trgsw.specs.Errors.{lowPoly}
-use Rattle.blind_rotation.specs.Blind.{bitRows, stepsTo, startOf}
+use Rattle.blind_rotation.specs.Blind.{stepsTo, startOf}
 use Rattle.blind_rotation.specs.Drift.{stepMoved}
 use Rattle.switching.specs.Switched.{rounding, maskField}
 use Rattle.switching.specs.Drift.{dropped}
 use Rattle.gate_sums.specs.declared.Kind.{Kind}
 use Rattle.gate_sums.specs.Kind.{rowOf, sign}
 use Rattle.gate_sums.specs.Sum.{muxSum}
-use Rattle.gates.specs.Gate.{rotatedSample}
 use Rattle.drift.specs.Polynomials.{centred, wholeSum, wholes, signeds, wholeTimes, wholeTurn, wholePhase, wholePairPhase}
 use Rattle.ring.specs.Pair.{Pair}
 use Rattle.key.specs.Testvec.{testPair}
+use Rattle.key.specs.Bits.{bitRows}
+use Rattle.samples.specs.Sample.{rotatedSample}
 
 -- 'Inside means absolute value below 2^29.'
 unfoldable pub inside : ℤ → Bool

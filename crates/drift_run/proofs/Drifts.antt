@@ -15,10 +15,10 @@ use Rattle.ring.specs.Sums.{tab}
 use Rattle.ring.proofs.Tab.{tab-snoc, length-tab}
 use Rattle.params.specs.declared.Params.{Params}
 use Rattle.circuit.specs.Form.{inputs, gates, outputs, wires}
-use Rattle.drift.specs.Words.{insideWord}
-use Rattle.drift.specs.CircuitWords.{allWords, gateBroughtWords, freshWords}
-use Rattle.drift.specs.Short.{shortGate, shortTo, shortBroughtTo}
+use Rattle.drift.specs.PrivateCircuit.{allWords, gateBroughtWords, freshWords}
+use Rattle.drift.specs.PrivateShort.{shortGate, shortTo, shortBroughtTo}
 use Rattle.drift_run.specs.Private.{putShort}
+use Rattle.drift_size.specs.Size.{insideWord}
 
 -- ---- all of a list
 
@@ -54,10 +54,10 @@ all-done f l m e = rw (le-antisymm l m) at e
 
 -- ---- one gate's drift in its place
 
-pub put-made : (p : Params) (key bs ws ds : List ℕ) (g : ℕ) {own d : ℕ} → own ≡ inputs bs + g → inputs bs + g < length ds
+pub drift-made : (p : Params) (key bs ws ds : List ℕ) (g : ℕ) {own d : ℕ} → own ≡ inputs bs + g → inputs bs + g < length ds
     → d ≡ shortGate p key bs ws (take own ds) g → set ds own d ≡ putShort p key bs ws ds g
 unfolding putShort
-put-made p key bs ws ds g {own} {d} eo l ed =
+drift-made p key bs ws ds g {own} {d} eo l ed =
     ap₂ (set ds) eo (ed ∙ ap (λ (k : ℕ). shortGate p key bs ws (take k ds) g) eo)
     ∙ set-split ds (inputs bs + g) (shortGate p key bs ws (take (inputs bs + g) ds) g) l
     ∙ ap (λ (k : ℕ). take (inputs bs + g) ds ++ (shortGate p key bs ws (take (inputs bs + g) ds) g ∷ drop k ds)) (sym (add-one (inputs bs + g)))

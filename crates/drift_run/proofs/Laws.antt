@@ -92,9 +92,6 @@ module _ (p : Params) (ksk bsk key z bs ws ds plain : List ℕ) (good : DriftGat
   within : inputs bs * (p .n + 1) ≤ length ws
   within = rw (good .passing .finished .wires-length) (inputs-fit p bs)
 
-  ciphers-fill : (n : ℕ) → length (cs n) ≡ (inputs bs + n) * (p .n + 1)
-  ciphers-fill n = held-length p ksk bsk bs ws within n
-
   drifts-fill : (n : ℕ) → length (wordsOf (xs n)) ≡ inputs bs + n
   drifts-fill n =
       let f = good .passing .finished in
@@ -104,7 +101,7 @@ module _ (p : Params) (ksk bsk key z bs ws ds plain : List ℕ) (good : DriftGat
   ciphers-long : (n : ℕ) → n ≤ gates bs → length (ciphers-then n) ≡ length ws
   ciphers-long n h =
       let e = length-append (cs n) (drop ((inputs bs + n) * (p .n + 1)) ws) in
-      let l = ciphers-fill n in
+      let l = held-length p ksk bsk bs ws within n in
       let d = length-drop ((inputs bs + n) * (p .n + 1)) ws in
       let f = fits p bs n h in
       let w = good .passing .finished .wires-length in
@@ -128,7 +125,7 @@ module _ (p : Params) (ksk bsk key z bs ws ds plain : List ℕ) (good : DriftGat
   -- ---- what gate n reads
 
   wires-read : (n : ℕ) → wiresBefore p bs n (ciphers-then n) ≡ cs n
-  wires-read n = take-at (cs n) (drop ((inputs bs + n) * (p .n + 1)) ws) ((inputs bs + n) * (p .n + 1)) (ciphers-fill n)
+  wires-read n = take-at (cs n) (drop ((inputs bs + n) * (p .n + 1)) ws) ((inputs bs + n) * (p .n + 1)) (held-length p ksk bsk bs ws within n)
 
   words-read : (n : ℕ) → take (inputs bs + n) (drifts-then n) ≡ wordsOf (xs n)
   words-read n = take-at (wordsOf (xs n)) (drop (inputs bs + n) ds) (inputs bs + n) (drifts-fill n)

@@ -18,8 +18,8 @@ use Rattle.ways.specs.Ways.{wayOf}
 use Rattle.ways.specs.Private.{Within}
 use Rattle.ways.specs.Ciphers.{cipherAt}
 use Rattle.ways.proofs.Ciphers.{wire-within, cipher-length}
-use Rattle.drift.specs.CircuitWords.{wayBroughtWords, gateBroughtWords}
-use Rattle.drift.specs.Short.{shortWord, shortGate}
+use Rattle.drift.specs.PrivateCircuit.{wayBroughtWords, gateBroughtWords}
+use Rattle.drift.specs.PrivateShort.{shortWord, shortGate}
 use Rattle.drift_run.specs.declared.by_way.Drifted.{Drifted}
 use Rattle.drift_run.specs.Private.{drifted}
 

@@ -27,8 +27,8 @@ use Rattle.encrypted_run.specs.Run.{gateCipher, ciphersOf, outputCiphers, stepp
 use Rattle.ways.proofs.Ciphers.{wire-within, cipher-front, cipher-next}
 use Rattle.encrypted_run.proofs.Wires.{gate-length}
 use Rattle.drift.specs.Circuit.{gateDriftOn, gateBroughtOn, driftsOf, allOf, worstFrom, allInside}
-use Rattle.drift.specs.CircuitWords.{allWords, worstWords, outputWords, gateWordOn, gateBroughtWords}
-use Rattle.drift.specs.Short.{shortGate}
+use Rattle.drift.specs.PrivateCircuit.{allWords, worstWords, outputWords, gateWordOn, gateBroughtWords}
+use Rattle.drift.specs.PrivateShort.{shortGate}
 use Rattle.drift.proofs.Passes.{short-gate, short-brought, short-run, short-rotations}
 use Rattle.drift.proofs.Lists.{all-reckoned, worst-reckoned, gate-reckoned, gate-brought-reckoned, drifts-words, inside-reckoned}
 use Rattle.drift.proofs.Demand.{demand-three}

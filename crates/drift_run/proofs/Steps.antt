@@ -25,7 +25,7 @@ use Rattle.gate_sums.specs.declared.Weights.{Weights}
 use Rattle.gate_sums.specs.Weights.{weightsOf}
 use Rattle.gate_sums.specs.Sum.{summed}
 use Rattle.gate_sums.proofs.Sums.{summed-words}
-use Rattle.drift.specs.Words.{roundingWord, broughtWord}
+use Rattle.drift.specs.PrivateWords.{roundingWord, broughtWord}
 use Rattle.blind_rotation.proofs.Start.{turn-sum}
 use Rattle.drift.proofs.Meaning.{summed-below}
 use Rattle.drift.proofs.Round.{rounding-near}
@@ -55,12 +55,12 @@ module _ (p : Params) (kind : Kind) (a b : List ℕ) {w : Weights} (e : w ≡ we
 -- ---- the turns
 
 module _ (p : Params) (r : InRange p) where
-  turn-below : size p + size p < Q
+  turn-fits : size p + size p < Q
   unfolding Q
-  turn-below = let h = size-to p r in omega arith
+  turn-fits = let h = size-to p r in omega arith
 
   pub turn-power : 2 ^ (p .nbit + 1) % Q ≡ size p + size p
-  turn-power = ap (λ (n : ℕ). n % Q) (turn-is p r) ∙ mod-eq-of-lt turn-below
+  turn-power = ap (λ (n : ℕ). n % Q) (turn-is p r) ∙ mod-eq-of-lt turn-fits
 
   -- nothing of it passes 32 bits
   pub turns-fit : (body masks : ℕ) {turn : ℕ} → turn ≡ size p + size p → body ≤ size p + size p → body + masks % turn < Q
@@ -71,7 +71,7 @@ module _ (p : Params) (r : InRange p) where
   turn-pos e = omega (arith, size-from p)
 
   pub size-power : 2 ^ p .nbit % Q ≡ size p
-  size-power = mod-eq-of-lt (let h = turn-below in omega arith)
+  size-power = mod-eq-of-lt (let h = turn-fits in omega arith)
 
   pub step-power : 2 ^ (31 - p .nbit) % Q ≡ step p
   unfolding step Q

@@ -10,20 +10,13 @@ use lib.IntN.{natAbs}
 use Rattle.ring.specs.Word.{Q, neg, eighth}
 use Rattle.ring.specs.Centre.{centre}
 use Rattle.ring.proofs.Words.{neg-mod}
-use Rattle.drift.specs.Words.{insideWord}
-use Rattle.drift.specs.CircuitWords.{allWords, worseWord, worstWords}
+use Rattle.drift.specs.PrivateCircuit.{allWords, worstWords}
 use Rattle.drift_run.specs.declared.by_way.Drifted.{Drifted}
 use Rattle.drift_run.specs.Private.{drifted}
+use Rattle.drift_size.specs.Size.{insideWord, worseWord}
 
 abbrev pub told : ℕ → Bool → ℕ → Drifted
 told d i w = record { drift = d; inside = i; worst = w }
-
--- the tests of drifts, as `drift_size` has them
-abbrev Small : ℕ → Bool
-Small x = ltb (natAbs (centre x)) eighth
-
-abbrev Larger : ℕ → ℕ → ℕ
-Larger x y = cond (ltb (natAbs (centre x)) (natAbs (centre y))) y x
 
 -- no rotation
 pub told-still : (d : ℕ) → told d true 0 ≡ drifted d []
@@ -31,17 +24,17 @@ unfolding allWords worstWords
 told-still d = refl
 
 -- one
-pub told-one : {d e x y w : ℕ} {i j : Bool} → d ≡ e → x ≡ y → j ≡ Small x → i ≡ cond j true false → w ≡ Larger 0 x → told d i w ≡ drifted e (y ∷ [])
-unfolding allWords worstWords insideWord worseWord
+pub told-one : {d e x y w : ℕ} {i j : Bool} → d ≡ e → x ≡ y → j ≡ insideWord x → i ≡ cond j true false → w ≡ worseWord 0 x → told d i w ≡ drifted e (y ∷ [])
+unfolding allWords worstWords
 told-one {d} {e} {x} {y} {w} {i} {j} ed ex ej ei ew =
     let inside : i ≡ cond (insideWord y) true false = ei ∙ ap (λ (b : Bool). cond b true false) (ej ∙ ap insideWord ex) in
     let worst : w ≡ worseWord 0 y = ew ∙ ap (worseWord 0) ex in
     ap₂ (λ (u : ℕ) (b : Bool). told u b w) ed inside ∙ ap (told e (cond (insideWord y) true false)) worst
 
 -- two
-pub told-two : {d e x y u v w t : ℕ} {i j k l : Bool} → d ≡ e → x ≡ y → u ≡ v → j ≡ Small x → k ≡ Small u → l ≡ cond k true false → i ≡ cond j l false
-    → t ≡ Larger 0 x → w ≡ Larger t u → told d i w ≡ drifted e (y ∷ v ∷ [])
-unfolding allWords worstWords insideWord worseWord
+pub told-two : {d e x y u v w t : ℕ} {i j k l : Bool} → d ≡ e → x ≡ y → u ≡ v → j ≡ insideWord x → k ≡ insideWord u → l ≡ cond k true false → i ≡ cond j l false
+    → t ≡ worseWord 0 x → w ≡ worseWord t u → told d i w ≡ drifted e (y ∷ v ∷ [])
+unfolding allWords worstWords
 told-two {d} {e} {x} {y} {u} {v} {w} {t} {i} {j} {k} {l} ed ex eu ej ek el ei et ew =
     let second : l ≡ cond (insideWord v) true false = el ∙ ap (λ (b : Bool). cond b true false) (ek ∙ ap insideWord eu) in
     let inside : i ≡ cond (insideWord y) (cond (insideWord v) true false) false = ei ∙ ap₂ (λ (a b : Bool). cond a b false) (ej ∙ ap insideWord ex) second in

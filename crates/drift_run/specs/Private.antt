@@ -1,18 +1,17 @@
 -- What the routines inside this crate promise each other, in words; a reader of the public contracts can leave it.
 use mathlib.Core.Bool.{Bool, true, false, cond}
 use mathlib.Core.Path.{_≡_}
-use mathlib.Core.List.{List, [], _∷_, _++_}
-use Prim.Native.Nat.{ℕ, _+_, _*_, _≤_, _<_}
+use mathlib.Core.List.{List, _∷_, _++_}
+use Prim.Native.Nat.{ℕ, _+_, _*_}
 use lib.ListN.{length, take, drop}
 use Rattle.params.specs.declared.Params.{Params}
 use Rattle.params.specs.Ranges.{paramsNumber}
-use Rattle.params.specs.Sizes.{size, switchingWords, bootstrappingWords}
+use Rattle.params.specs.Sizes.{switchingWords, bootstrappingWords}
 use Rattle.tlwe.specs.Key.{binary}
 use Rattle.circuit.specs.Form.{inputs, gates, outputs, wires}
 use Rattle.circuit.specs.Valid.{Valid}
-use Rattle.encrypted_run.specs.Run.{stepped}
-use Rattle.drift.specs.CircuitWords.{allWords, worstWords, gateBroughtWords, freshWords, outputWords}
-use Rattle.drift.specs.Short.{shortGate, shortTo, shortBroughtTo}
+use Rattle.drift.specs.PrivateCircuit.{allWords, worstWords, gateBroughtWords, freshWords, outputWords}
+use Rattle.drift.specs.PrivateShort.{shortGate, shortTo, shortBroughtTo}
 use Rattle.drift_run.specs.declared.by_way.Drifted.{Drifted}
 
 -- A drift, and what was brought into the rotations on the way to it.

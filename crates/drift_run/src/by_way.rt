@@ -1,4 +1,4 @@
-// A gate's drift by its way (`drift`, specs/Short.antt), and what is told of the drifts brought into its rotations.
+// A gate's drift by its way (`drift`, specs/PrivateShort.antt), and what is told of the drifts brought into its rotations.
 ghost use mathlib.Core.Path.{_≡_};
 ghost use mathlib.Core.Bool.{false, cond};
 ghost use mathlib.Core.List.{[], _∷_};
@@ -8,9 +8,9 @@ ghost use Rattle.ring.specs.Word.{Q, neg};
 ghost use Rattle.gate_sums.specs.declared.Kind.the-variants.{And, AndNy};
 ghost use Rattle.gate_sums.specs.Sum.{summed};
 ghost use Rattle.ways.specs.declared.Way.the-variants.{Gate, NegatedGate, Choice};
-ghost use Rattle.drift.specs.Words.{broughtWord};
-ghost use Rattle.drift.specs.CircuitWords.{wayBroughtWords};
-ghost use Rattle.drift.specs.Short.{shortWord};
+ghost use Rattle.drift.specs.PrivateWords.{broughtWord};
+ghost use Rattle.drift.specs.PrivateCircuit.{wayBroughtWords};
+ghost use Rattle.drift.specs.PrivateShort.{shortWord};
 ghost use Rattle.drift_run.specs.Private.{Secret, drifted};
 use crate::turns::bit_word;
 use crate::turns::phase;

@@ -1,5 +1,5 @@
 // The drift run (01, Drift): an encrypted run whose secret keys and plain bits are lent too, so that each wire's drift is told and whether all that demand 3 names
-// are inside. It stands above `encrypted_run`, and goes the short way to a drift (`drift`, specs/Short.antt): one phase a wire.
+// are inside. It stands above `encrypted_run`, and goes the short way to a drift (`drift`, specs/PrivateShort.antt): one phase a wire.
 ghost use mathlib.Core.Path.{_≡_};
 ghost use mathlib.Core.Bool.{true};
 ghost use Prim.Native.Nat.{ℕ, _<_};

@@ -1,4 +1,4 @@
-// The parameters: their ranges, the length of every lent slice, and the published sets.
+// The parameters: whether all six numbers are in range.
 ghost use mathlib.Core.Path.{_≡_};
 ghost use Rattle.params.specs.Refusal.{answer};
 ghost use Rattle.params.specs.Ranges.{paramsNumber};

@@ -44,8 +44,9 @@ module _ (p : Params) (ksk bsk bs ins ws out : List ℕ) (g : RunGood p (length 
 -- ---- the wires of a run
 
 module _ (p : Params) (ksk bsk bs ins : List ℕ) (li : length ins ≡ inputs bs * (p .n + 1)) where
-  held : (g : ℕ) → length (ciphersTo p ksk bsk bs ins g) ≡ (inputs bs + g) * (p .n + 1)
-  held g = let e = ciphers-length p ksk bsk bs ins g in omega (arith, e, li)
+  -- so many words after g gates
+  pub ciphers-fill : (g : ℕ) → length (ciphersTo p ksk bsk bs ins g) ≡ (inputs bs + g) * (p .n + 1)
+  ciphers-fill g = let e = ciphers-length p ksk bsk bs ins g in omega (arith, e, li)
 
   -- a wire, once there, stays
   kept : (g d w : ℕ) → w < inputs bs + g → cipherAt p (ciphersTo p ksk bsk bs ins (g + d)) w ≡ cipherAt p (ciphersTo p ksk bsk bs ins g) w
@@ -53,7 +54,7 @@ module _ (p : Params) (ksk bsk bs ins : List ℕ) (li : length ins ≡ inputs bs
   kept g zero w h = rw (add-zero g)
   kept g (suc d) w h =
       let ws = ciphersTo p ksk bsk bs ins (g + d) in
-      let l = held (g + d) in
+      let l = ciphers-fill (g + d) in
       let a : w + 1 ≤ inputs bs + (g + d) = omega arith in
       let b = wire-within p w (inputs bs + (g + d)) a in
       rw (add-suc g d) (cipher-front p ws (gateCipher p ksk bsk bs ws (g + d)) w (omega (arith, l, b)) ∙ kept g d w h)
@@ -74,7 +75,7 @@ module _ (p : Params) (ksk bsk bs ins : List ℕ) (li : length ins ≡ inputs bs
       let ws = ciphersTo p ksk bsk bs ins g in
       kept-to (g + 1) (inputs bs + g) (omega arith) (omega arith)
       ∙ ap (λ (x : List ℕ). cipherAt p x (inputs bs + g)) (ciphers-more p ksk bsk bs ins g)
-      ∙ cipher-next p ws (gateCipher p ksk bsk bs ws g) (inputs bs + g) (held g) (gate-length p ksk bsk bs ws g)
+      ∙ cipher-next p ws (gateCipher p ksk bsk bs ws g) (inputs bs + g) (ciphers-fill g) (gate-length p ksk bsk bs ws g)
 
   -- an operand that gate g reads is the finished wire
   pub operand-wire : (g w : ℕ) → g < gates bs → w < inputs bs + g → cipherAt p (ciphersTo p ksk bsk bs ins g) w ≡ cipherAt p (ciphersOf p ksk bsk bs ins) w
@@ -124,7 +125,7 @@ module _ (p : Params) (ksk bsk bs ins : List ℕ) (li : length ins ≡ inputs bs
       long r l =
           let b = v .every-output r l in
           let d : outputAt bs r + 1 ≤ wires bs = omega arith in
-          cipher-length p (ciphersOf p ksk bsk bs ins) (outputAt bs r) (rw (held (gates bs)) (wire-within p (outputAt bs r) (wires bs) d))
+          cipher-length p (ciphersOf p ksk bsk bs ins) (outputAt bs r) (rw (ciphers-fill (gates bs)) (wire-within p (outputAt bs r) (wires bs) d))
 
   -- a circuit of no gates is done at once: its wires are the inputs'
   pub no-gates : gates bs ≡ 0 → ciphersOf p ksk bsk bs ins ≡ ins

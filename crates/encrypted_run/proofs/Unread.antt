@@ -12,7 +12,7 @@ use Rattle.tlwe.specs.Linear.{negative}
 use Rattle.gate_sums.specs.declared.Kind.{Kind}
 use Rattle.gate_sums.specs.declared.Kind.the-variants.{And, AndNy}
 use Rattle.gate_sums.specs.Sum.{summed, muxSum}
-use Rattle.gates.specs.Gate.{rotatedSample, bootstrapped, gated, muxed}
+use Rattle.gates.specs.Gate.{bootstrapped, gated, muxed}
 use Rattle.circuit.specs.Form.{gates, kindAt, operandAt}
 use Rattle.ways.specs.declared.Way.{Way}
 use Rattle.ways.specs.declared.Way.the-variants.{Known, Negated, Gate, NegatedGate, Choice}
@@ -21,6 +21,7 @@ use Rattle.ways.specs.Ciphers.{cipherAt}
 use Rattle.ways.proofs.Made.{ran-known, ran-negated, ran-gate, ran-negated-gate, ran-choice}
 use Rattle.encrypted_run.specs.Run.{gateCipher, ciphersTo, ciphersOf}
 use Rattle.encrypted_run.specs.Rows.{RowsAlike, Alike, KeysAlike, GateAlike}
+use Rattle.samples.specs.Sample.{rotatedSample}
 
 -- a switching
 pub switched-alike : (p : Params) (ksk ksk′ sample : List ℕ) → RowsAlike p ksk ksk′ sample → switched p ksk sample ≡ switched p ksk′ sample

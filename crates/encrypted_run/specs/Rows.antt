@@ -7,16 +7,15 @@ use Rattle.params.specs.declared.Params.{Params}
 use Rattle.params.specs.Sizes.{size}
 use Rattle.key.specs.Switching.{rowPart}
 use Rattle.switching.specs.Switched.{maskField}
-use Rattle.gate_sums.specs.declared.Kind.{Kind}
 use Rattle.gate_sums.specs.declared.Kind.the-variants.{And, AndNy}
 use Rattle.gate_sums.specs.Sum.{summed, muxSum}
-use Rattle.gates.specs.Gate.{rotatedSample}
 use Rattle.circuit.specs.Form.{kindAt, operandAt}
 use Rattle.ways.specs.declared.Way.{Way}
 use Rattle.ways.specs.declared.Way.the-variants.{Known, Negated, Gate, NegatedGate, Choice}
 use Rattle.ways.specs.Ways.{wayOf}
 use Rattle.ways.specs.Ciphers.{cipherAt}
 use Rattle.encrypted_run.specs.Run.{ciphersTo}
+use Rattle.samples.specs.Sample.{rotatedSample}
 
 -- Two switching keys have the same words in every row that the sample's fields use: row (i, j, k) for field j of mask i being k, not 0.
 unfoldable pub RowsAlike : Params → List ℕ → List ℕ → List ℕ → Type 0

@@ -33,13 +33,11 @@ outputCiphers p bs ws = joined (outputs bs) (λ o. cipherAt p ws (outputAt bs o)
 
 -- The wires' slice, which held ws, after a run.
 unfoldable pub wiresAfter : Params → List ℕ → List ℕ → List ℕ → List ℕ → List ℕ → List ℕ → List ℕ
-wiresAfter p ksk bsk bs ins ws out =
-    ifDone (encryptedAnswer p (length ksk) (length bsk) bs (length ins) (length ws) (length out) .number) (ciphersOf p ksk bsk bs ins) ws
+wiresAfter p ksk bsk bs ins ws out = ifDone (encryptedAnswer p (length ksk) (length bsk) bs (length ins) (length ws) (length out) .number) (ciphersOf p ksk bsk bs ins) ws
 
 -- The outputs' slice, which held out.
 unfoldable pub outputsAfter : Params → List ℕ → List ℕ → List ℕ → List ℕ → List ℕ → List ℕ → List ℕ
-outputsAfter p ksk bsk bs ins ws out =
-    ifDone (encryptedAnswer p (length ksk) (length bsk) bs (length ins) (length ws) (length out) .number) (outputCiphers p bs (ciphersOf p ksk bsk bs ins)) out
+outputsAfter p ksk bsk bs ins ws out = ifDone (encryptedAnswer p (length ksk) (length bsk) bs (length ins) (length ws) (length out) .number) (outputCiphers p bs (ciphersOf p ksk bsk bs ins)) out
 
 -- The ciphertexts of the wires before gate g.
 abbrev pub wiresBefore : Params → List ℕ → ℕ → List ℕ → List ℕ

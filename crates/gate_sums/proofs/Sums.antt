@@ -16,6 +16,8 @@ use Rattle.ring.specs.Sums.{tab}
 use Rattle.ring.specs.Poly.{plus, scale}
 use Rattle.ring.specs.Phase.{trivial}
 use Rattle.ring.proofs.Tab.{at-tab, length-tab, tab-of, tab-ext}
+use Rattle.ring.proofs.Places.{length-plus, at-combined}
+use Rattle.ring.proofs.Samples.{trivial-stored as last-put}
 use Rattle.params.specs.declared.Params.{Params}
 use Rattle.params.specs.Refusal.{ifDone}
 use Rattle.params.specs.Sizes.{size}
@@ -58,12 +60,7 @@ last-added l c v h w ev =
 
 -- c in the last place of words that are 0
 pub trivial-stored : (m c : ℕ) → 0 < m → set (tab m (λ i. 0)) (m - 1) c ≡ trivial (m - 1) c
-unfolding trivial
-trivial-stored m c h =
-    let e : m ≡ m - 1 + 1 = omega arith in
-    last-stored (m - 1) (λ i. cond (eqb i (m - 1)) c 0) (tab m (λ i. 0)) c (length-tab m _ ∙ e)
-    (λ i b. at-tab m (λ i. 0) i (omega arith) ∙ sym (ap (λ (b : Bool). cond b c 0) (ne-eqb i (m - 1) (λ q. let z : ⊥ = omega arith in z))))
-    (sym (ap (λ (b : Bool). cond b c 0) (eq-eqb (m - 1) (m - 1) refl)))
+trivial-stored m c h = let e : m ≡ m - 1 + 1 = omega arith in ap (λ (k : ℕ). set (tab k (λ i. 0)) (m - 1) c) e ∙ last-put (m - 1) c
 
 -- ---- what the code leaves is what is defined
 
@@ -74,14 +71,6 @@ module _ (d c : ℕ) (s l : List ℕ) {new : List ℕ} (e : l ≡ s) (ls : lengt
       let m : length l ≡ d + 1 = ap length e ∙ ls in
       let k : length l - 1 ≡ d = omega arith in
       n ∙ ap₂ (λ (m k : ℕ). plus m l (trivial k c)) m k ∙ ap (λ (x : List ℕ). plus (d + 1) x (trivial d c)) e
-
-pub length-plus : (m : ℕ) (a b : List ℕ) → length (plus m a b) ≡ m
-unfolding plus
-length-plus m a b = length-tab m _
-
-pub at-plus : (m : ℕ) (a b : List ℕ) (i : ℕ) → i < m → at (plus m a b) i ≡ (at a i + at b i) % Q
-unfolding plus
-at-plus m a b i l = at-tab m _ i l
 
 -- a refused call leaves what was there, whatever it would have written
 pub unmoved : (n : ℕ) (x y o : List ℕ) {l : List ℕ} → (n ≡ 0 → ⊥) → l ≡ ifDone n x o → l ≡ ifDone n y o
@@ -121,14 +110,6 @@ pub constant-length : (p : Params) (value : Bool) → length (constantOf p value
 unfolding constantOf trivial
 constant-length p value = length-tab (p .n + 1) _
 
-combined-at : (m x : ℕ) (a : List ℕ) (y : ℕ) (b : List ℕ) (i : ℕ) → i < m → at (plus m (scale m x a) (scale m y b)) i ≡ (x * at a i + y * at b i) % Q
-unfolding plus scale Q
-combined-at m x a y b i l =
-    let u = at-tab m (λ j. x * at a j % Q) i l in
-    let v = at-tab m (λ j. y * at b j % Q) i l in
-    let w = at-tab m (λ j. (at (scale m x a) j + at (scale m y b) j) % Q) i l in
-    omega arith
-
 pub summed-words : (p : Params) (kind : Kind) (a b : List ℕ)
     → summed p kind a b ≡ tab (p .n + 1) (λ i. (weightsOf kind .a * at a i + weightsOf kind .b * at b i + cond (eqb i (p .n)) (weightsOf kind .added) 0) % Q)
 unfolding summed weightsOf plus trivial
@@ -137,4 +118,4 @@ summed-words p kind a b =
     let x = weightsOf kind .a in
     let y = weightsOf kind .b in
     let last : ℕ → ℕ = λ i. cond (eqb i (p .n)) (weightsOf kind .added) 0 in
-    tab-ext m _ _ (λ i l. ap₂ (λ (s t : ℕ). (s + t) % Q) (combined-at m x a y b i l) (at-tab m last i l) ∙ mod-add-mod (x * at a i + y * at b i) Q (last i))
+    tab-ext m _ _ (λ i l. ap₂ (λ (s t : ℕ). (s + t) % Q) (at-combined m x a y b i l) (at-tab m last i l) ∙ mod-add-mod (x * at a i + y * at b i) Q (last i))

@@ -14,11 +14,11 @@ use Rattle.switching.specs.Switched.{switchNumber, switched}
 use Rattle.switching.proofs.Checks.{switch-written, switched-length}
 use Rattle.gate_sums.specs.declared.Kind.{Kind}
 use Rattle.gate_sums.specs.Sum.{summed}
-use Rattle.samples.specs.Sample.{sampleOut}
+use Rattle.samples.specs.Sample.{sampleOut, rotatedSample}
 use Rattle.samples.proofs.Chain.{sample-length}
 use Rattle.samples.proofs.Uses.{sample-written}
 use Rattle.gates.specs.Private.{GateGood}
-use Rattle.gates.specs.Gate.{rotatedSample, bootstrapped, gated}
+use Rattle.gates.specs.Gate.{bootstrapped, gated}
 
 -- ---- lengths
 

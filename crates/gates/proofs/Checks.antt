@@ -1,43 +1,16 @@
 -- The refusals taken apart: what each test of a number tells, and that good arguments are not refused.
 -- Assumes nothing.
-use mathlib.Core.Path.{_≡_, refl, sym, ap, _∙_}
-use mathlib.Core.Bool.{Bool, true, false}
+use mathlib.Core.Path.{_≡_, refl, ap, _∙_}
 use Prim.Native.Nat.{ℕ, _+_, _≤_}
 use native.Mathlib.Omega.{arith}
-use borrow.Author.Tests.{eq-eqb, ne-eqb}
-use lib.Dec.{eqb}
 use Rattle.params.specs.declared.Params.{Params}
 use Rattle.params.specs.declared.Sizes.{Sizes}
 use Rattle.params.specs.Ranges.{paramsNumber}
-use Rattle.params.specs.Sizes.{size, sizesOf, sizesIn}
-use Rattle.params.proofs.Ranges.{in-range, size-to, sizes-good, sizes-number}
+use Rattle.params.specs.Sizes.{size, sizesOf}
+use Rattle.params.proofs.Ranges.{in-range, size-to, sizes-good}
 use Rattle.refusals.proofs.Table.{good, done}
 use Rattle.gates.specs.Refusals.{gateChecks, gateNumber}
 use Rattle.gates.specs.Private.{GateGood}
-
-module _ (p : Params) {s : Sizes} (e : s ≡ sizesOf p) where
-  -- parameters in range, and the record of lengths then
-  pub in-params : s .number ≡ 0 → paramsNumber p ≡ 0
-  in-params z = sizes-number p (sym (ap (λ (r : Sizes). r .number) e) ∙ z)
-
-  pub lengths-in : s .number ≡ 0 → s ≡ sizesIn p
-  lengths-in z = e ∙ sizes-good p (in-params z)
-
-  -- and out of range
-  pub out-params : (s .number ≡ 0 → ⊥) → eqb (paramsNumber p) 0 ≡ false
-  out-params h = ne-eqb (paramsNumber p) 0 (λ z. h (ap (λ (r : Sizes). r .number) (e ∙ sizes-good p z)))
-
-  pub on-params : s .number ≡ 0 → eqb (paramsNumber p) 0 ≡ true
-  on-params z = eq-eqb (paramsNumber p) 0 (in-params z)
-
--- a length that passes its test, and one that does not, where the test is against a field of the record
-pub fits : {a l m : ℕ} → a ≡ l → l ≡ m → eqb a m ≡ true
-fits {a} {l} {m} e f = eq-eqb a m (e ∙ f)
-
-pub unfit : {a l m : ℕ} → (a ≡ l → ⊥) → l ≡ m → eqb a m ≡ false
-unfit {a} {l} {m} h f = ne-eqb a m (λ e. h (e ∙ sym f))
-
--- ---- gates
 
 module _ (p : Params) (la lb lk ls lo : ℕ) where
   pub gate-good : gateNumber p la lb lk ls lo ≡ 0 → GateGood p la lb lk ls lo

@@ -9,8 +9,8 @@ use Rattle.switching.specs.Switched.{switched}
 use Rattle.gate_sums.specs.declared.Kind.{Kind}
 use Rattle.gate_sums.specs.declared.Kind.the-variants.{Or, And, AndNy}
 use Rattle.gate_sums.specs.Sum.{summed, muxSum}
-unfoldable pub use Rattle.samples.specs.Sample.{rotatedSample}
 use Rattle.gates.specs.Refusals.{gateNumber, muxNumber}
+use Rattle.samples.specs.Sample.{rotatedSample}
 
 -- The bootstrapping of the sum src (src/bootstrap/vanilla.rs): rotated, extracted at 0, switched.
 unfoldable pub bootstrapped : Params → List ℕ → List ℕ → List ℕ → List ℕ

@@ -14,11 +14,11 @@ use Rattle.gate_sums.specs.declared.Kind.the-variants.{Or, And, AndNy}
 use Rattle.gate_sums.specs.Sum.{summed, muxSum}
 use Rattle.gate_sums.proofs.Sums.{mux-sum-length}
 use Rattle.gate_sums.proofs.Uses.{mux-sum-written, not-written}
-use Rattle.samples.specs.Sample.{sampleOut}
+use Rattle.samples.specs.Sample.{sampleOut, rotatedSample}
 use Rattle.samples.proofs.Chain.{sample-length}
 use Rattle.samples.proofs.Uses.{sample-written}
 use Rattle.gates.specs.Private.{MuxGood}
-use Rattle.gates.specs.Gate.{rotatedSample, gated, muxed, muxedNaive, gateOut}
+use Rattle.gates.specs.Gate.{gated, muxed, muxedNaive, gateOut}
 use Rattle.gates.proofs.Chain.{negative-length, switched-to, gated-length}
 use Rattle.gates.proofs.Uses.{gate-written}
 

@@ -1,5 +1,5 @@
 -- The ranges of the six numbers (01, 'Parameters').
-use Prim.Native.Nat.{ℕ, _*_, _^_, _≤_}
+use Prim.Native.Nat.{ℕ, _*_, _≤_}
 use lib.Dec.{leb}
 use Rattle.params.specs.declared.Params.{Params}
 use Rattle.params.specs.Refusal.{check}

@@ -8,10 +8,11 @@ use Rattle.params.specs.Sizes.{size}
 use Rattle.refusals.specs.Table.{Check, is, refusalBy}
 use Rattle.ring.specs.Poly.{plus, times}
 
--- The refusals of a product whose factors have la and lb words and whose result has lo (01, 'Refusal numbers'): 1, then 2 unless each has N.
+-- The checks of a product whose factors have la and lb words and whose result has lo (01, 'Refusal numbers'): 2 unless each has N.
 abbrev pub productChecks : Params → ℕ → ℕ → ℕ → List Check
 productChecks p la lb lo = is la (size p) 2 ∷ is lb (size p) 2 ∷ is lo (size p) 2 ∷ []
 
+-- Its refusal: 1, 2 or 0.
 unfoldable pub productNumber : Params → ℕ → ℕ → ℕ → ℕ
 productNumber p la lb lo = refusalBy p (productChecks p la lb lo)
 

@@ -1,11 +1,10 @@
 -- What only code and proofs need of a table of refusals: the facts that its checks tell, and the chain that the code makes of it.
-use mathlib.Core.Bool.{Bool, true, cond}
+use mathlib.Core.Bool.{Bool, true}
 use mathlib.Core.List.{List, [], _∷_}
 use mathlib.Core.Path.{_≡_}
 use Prim.Native.Nat.{ℕ, _≤_, _<_}
 use lib.Dec.{eqb, leb, ltb}
-use Rattle.params.specs.Refusal.{check}
-use Rattle.refusals.specs.Table.{Check, is, atMost, below, holds}
+use Rattle.refusals.specs.Table.{Check, is, atMost, below, holds, also}
 
 -- Does a check pass?
 abbrev pub passes : Check → Bool
@@ -32,10 +31,6 @@ Fact (holds test number) = test ≡ true
 abbrev pub Facts : List Check → Type 0
 Facts [] = Unit {0}
 Facts (c ∷ cs) = Fact c × Facts cs
-
--- The step of the code, `refusals::also`: the number so far where it is not 0, else that of one more test.
-abbrev pub also : ℕ → Bool → ℕ → ℕ
-also number test refusal = cond (eqb number 0) (check test refusal 0) number
 
 -- The checks one after the other, from the number so far.
 abbrev pub chain : ℕ → List Check → ℕ

@@ -1,5 +1,5 @@
 -- The refusals of a routine as a list of checks, in the order of document 01's table ('Refusal numbers').
-use mathlib.Core.Bool.{Bool}
+use mathlib.Core.Bool.{Bool, cond}
 use mathlib.Core.List.{List, [], _∷_}
 use Prim.Native.Nat.{ℕ}
 use lib.Dec.{eqb, leb, ltb}
@@ -25,3 +25,7 @@ firstOf (holds test number ∷ cs) = check test number (firstOf cs)
 -- A routine's number: 1 where the parameters are out of range, else that of its checks.
 abbrev pub refusalBy : Params → List Check → ℕ
 refusalBy p checks = check (eqb (paramsNumber p) 0) 1 (firstOf checks)
+
+-- The step of the code, `refusals::also`: the number so far where it is not 0, else that of one more test.
+abbrev pub also : ℕ → Bool → ℕ → ℕ
+also number test refusal = cond (eqb number 0) (check test refusal 0) number

@@ -1,7 +1,7 @@
 // The refusal table's order, as code: a routine's number is a straight line of checks, each of which counts only while the number is 0.
 ghost use mathlib.Core.Path.{_≡_};
 ghost use lib.Dec.{eqb, leb, ltb};
-ghost use Rattle.refusals.specs.Private.{also};
+ghost use Rattle.refusals.specs.Table.{also};
 
 // The number so far where it is not 0; else the refusal, unless the test holds.
 pub fn also(number: u32, test: bool, refusal: u32) -> u32

@@ -27,10 +27,11 @@ messageOf m t = (t * (2 * m) + H) / Q % m
 abbrev pub bitValue : Params → Level → List ℕ → List ℕ → Bool
 bitValue p level c key = ifDone (keyedNumber p level (length c) key) (bitOf (phaseOf (dimension p level) key c)) false
 
--- Refusals 1, 2, 4 and 5 of a decryption of a message of modulus m.
+-- The checks of a decryption of a message of modulus m: 2 for the lengths, 4 for the key, 5 for the modulus.
 abbrev pub messageChecks : Params → Level → ℕ → ℕ → List ℕ → List Check
 messageChecks p level m lc key = keyedChecks p level lc key ++ (holds (isModulus m) 5 ∷ [])
 
+-- Its refusal: 1, 2, 4, 5 or 0.
 unfoldable pub messageNumber : Params → Level → ℕ → ℕ → List ℕ → ℕ
 messageNumber p level m lc key = refusalBy p (messageChecks p level m lc key)
 

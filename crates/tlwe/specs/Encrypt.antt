@@ -13,7 +13,7 @@ use Rattle.tlwe.specs.Level.{dimension, cipherWords}
 use Rattle.tlwe.specs.Key.{binary}
 use Rattle.tlwe.specs.Plain.{isPlain, plainWord}
 
--- Refusals 1, 2, 4 and 5 of an encryption with lm masks into lo words.
+-- The checks of an encryption with lm masks into lo words: 2 for the lengths, 4 for the key, 5 for the message modulus.
 abbrev pub encryptChecks : Params → Level → Plain → ℕ → List ℕ → ℕ → List Check
 encryptChecks p level plain lm key lo =
     is lm (dimension p level) 2
@@ -23,6 +23,7 @@ encryptChecks p level plain lm key lo =
     ∷ holds (isPlain plain) 5
     ∷ []
 
+-- Its refusal: 1, 2, 4, 5 or 0.
 unfoldable pub encryptNumber : Params → Level → Plain → ℕ → List ℕ → ℕ → ℕ
 encryptNumber p level plain lm key lo = refusalBy p (encryptChecks p level plain lm key lo)
 

@@ -20,10 +20,11 @@ binary (k ∷ ks) = cond (leb k 1) (binary ks) false
 abbrev pub keyNumber : List ℕ → ℕ
 keyNumber key = check (binary key) 4 0
 
--- Refusals 1, 2 and 4 of a call that is lent a ciphertext of lc words and a key.
+-- The checks of a call that is lent a ciphertext of lc words and a key: 2 for the lengths, 4 for the key.
 abbrev pub keyedChecks : Params → Level → ℕ → List ℕ → List Check
 keyedChecks p level lc key = is lc (cipherWords p level) 2 ∷ is (length key) (dimension p level) 2 ∷ holds (binary key) 4 ∷ []
 
+-- Its refusal: 1, 2, 4 or 0.
 unfoldable pub keyedNumber : Params → Level → ℕ → List ℕ → ℕ
 keyedNumber p level lc key = refusalBy p (keyedChecks p level lc key)
 

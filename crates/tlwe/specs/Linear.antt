@@ -10,10 +10,11 @@ use Rattle.refusals.specs.Table.{Check, is, refusalBy}
 use Rattle.tlwe.specs.declared.Level.{Level}
 use Rattle.tlwe.specs.Level.{cipherWords}
 
--- Refusals 1 and 2 of an operation on ciphertexts of la, lb and lo words, which are to have m. (Negation has one operand: its length stands for both.)
+-- The checks of an operation on ciphertexts of la, lb and lo words, which are to have m: 2 for each. (Negation has one operand: its length stands for both.)
 abbrev pub linearChecks : ℕ → ℕ → ℕ → ℕ → List Check
 linearChecks m la lb lo = is la m 2 ∷ is lb m 2 ∷ is lo m 2 ∷ []
 
+-- Its refusal at a level: 1, 2 or 0.
 unfoldable pub linearNumber : Params → Level → ℕ → ℕ → ℕ → ℕ
 linearNumber p level la lb lo = refusalBy p (linearChecks (cipherWords p level) la lb lo)
 

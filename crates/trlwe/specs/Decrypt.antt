@@ -13,7 +13,7 @@ use Rattle.tlwe.specs.Key.{binary}
 use Rattle.tlwe.specs.Decrypt.{bitOf}
 use Rattle.ring.specs.Bit.{bitNumber}
 
--- The refusals of a decryption of la and lb words into lo bytes: 1, then 2 unless each has N, then 4.
+-- The checks of a decryption of la and lb words into lo bytes: 2 unless each has N, then 4 for the key.
 abbrev pub decryptPairChecks : Params → ℕ → ℕ → List ℕ → ℕ → List Check
 decryptPairChecks p la lb key lo =
     is la (size p) 2
@@ -23,6 +23,7 @@ decryptPairChecks p la lb key lo =
     ∷ holds (binary key) 4
     ∷ []
 
+-- Its refusal: 1, 2, 4 or 0.
 unfoldable pub decryptPairNumber : Params → ℕ → ℕ → List ℕ → ℕ → ℕ
 decryptPairNumber p la lb key lo = refusalBy p (decryptPairChecks p la lb key lo)
 

@@ -13,7 +13,7 @@ use Rattle.tlwe.specs.Key.{binary}
 use Rattle.tlwe.specs.Plain.{bitWord}
 use Rattle.ring.specs.Bit.{truth}
 
--- The refusals of an encryption of lp values with lm masks and ln noise words into la and lb words: 1, then 2 unless each has N, then 4.
+-- The checks of an encryption of lp values with lm masks and ln noise words into la and lb words: 2 unless each has N, then 4 for the key.
 abbrev pub encryptPairChecks : Params → ℕ → ℕ → ℕ → List ℕ → ℕ → ℕ → List Check
 encryptPairChecks p lp lm ln key la lb =
     is lp (size p) 2
@@ -25,6 +25,7 @@ encryptPairChecks p lp lm ln key la lb =
     ∷ holds (binary key) 4
     ∷ []
 
+-- Its refusal: 1, 2, 4 or 0.
 unfoldable pub encryptPairNumber : Params → ℕ → ℕ → ℕ → List ℕ → ℕ → ℕ → ℕ
 encryptPairNumber p lp lm ln key la lb = refusalBy p (encryptPairChecks p lp lm ln key la lb)
 

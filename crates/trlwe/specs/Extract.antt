@@ -9,10 +9,11 @@ use Rattle.refusals.specs.Table.{Check, is, below, refusalBy}
 use Rattle.ring.specs.Word.{at}
 use Rattle.ring.specs.Phase.{extract}
 
--- The refusals of an extraction at k from polynomials of la and lb words into lo words: 1, then 2, then 3 unless k is below N.
+-- The checks of an extraction at k from polynomials of la and lb words into lo words: 2 for the lengths, then 3 unless k is below N.
 abbrev pub extractChecks : Params → ℕ → ℕ → ℕ → ℕ → List Check
 extractChecks p la lb k lo = is la (size p) 2 ∷ is lb (size p) 2 ∷ is lo (size p + 1) 2 ∷ below k (size p) 3 ∷ []
 
+-- Its refusal: 1, 2, 3 or 0.
 unfoldable pub extractNumber : Params → ℕ → ℕ → ℕ → ℕ → ℕ
 extractNumber p la lb k lo = refusalBy p (extractChecks p la lb k lo)
 

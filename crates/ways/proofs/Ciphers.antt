@@ -21,7 +21,7 @@ use Rattle.ways.specs.declared.Way.{Way}
 use Rattle.ways.specs.declared.Way.the-variants.{Known, Negated, Gate, NegatedGate, Choice}
 use Rattle.ways.specs.Ways.{made, ran}
 use Rattle.ways.specs.Ciphers.{cipherAt}
-use Rattle.ways.specs.Private.{least, Within}
+use Rattle.ways.specs.Private.{lesser, Within}
 
 pub cipher-length : (p : Params) (ws : List ℕ) (w : ℕ) → Within p w (length ws) → length (cipherAt p ws w) ≡ p .n + 1
 unfolding cipherAt part
@@ -63,17 +63,17 @@ cipher-next p front row w l r = ap (take (p .n + 1)) (drop-at front row (w * (p 
 -- ---- what there is of a ciphertext, as the code cuts it
 
 -- the less of two is at most each
-pub least-first : (a b : ℕ) → least a b ≤ a
-unfolding least
-least-first a b = go (leb a b) refl
+pub lesser-first : (a b : ℕ) → lesser a b ≤ a
+unfolding lesser
+lesser-first a b = go (leb a b) refl
   where
     go : (t : Bool) → leb a b ≡ t → cond t a b ≤ a
     go true e = omega arith
     go false e = let h = leb-false a b e in omega arith
 
-pub least-second : (a b : ℕ) → least a b ≤ b
-unfolding least
-least-second a b = go (leb a b) refl
+pub lesser-second : (a b : ℕ) → lesser a b ≤ b
+unfolding lesser
+lesser-second a b = go (leb a b) refl
   where
     go : (t : Bool) → leb a b ≡ t → cond t a b ≤ b
     go true e = leb-true a b e
@@ -83,12 +83,12 @@ least-second a b = go (leb a b) refl
 pub place-in : (w m len : ℕ) → 0 < m → w ≤ len / m → w * m ≤ len
 place-in w m len z h = let a = mul-le-mul-right m h in let d = div-add-mod len m in omega (arith, a, d)
 
-pub place-is : (w m len : ℕ) → 0 < m → w ≤ len / m → w * m ≡ least (w * m) len
-unfolding least
+pub place-is : (w m len : ℕ) → 0 < m → w ≤ len / m → w * m ≡ lesser (w * m) len
+unfolding lesser
 place-is w m len z h = rw (le-leb (w * m) len (place-in w m len z h))
 
-pub place-past : (w m len : ℕ) → 0 < m → len / m < w → len ≡ least (w * m) len
-unfolding least
+pub place-past : (w m len : ℕ) → 0 < m → len / m < w → len ≡ lesser (w * m) len
+unfolding lesser
 place-past w m len z h =
     let a = mul-le-mul-right m h in
     let d = div-add-mod len m in
@@ -96,26 +96,26 @@ place-past w m len z h =
     rw (lt-leb (w * m) len (omega (arith, a, d, r)))
 
 -- cutting at the end of the list takes nothing away
-drop-least : (s : ℕ) (l : List ℕ) → drop (least s (length l)) l ≡ drop s l
-unfolding least
-drop-least s l = go (leb s (length l)) refl
+drop-lesser : (s : ℕ) (l : List ℕ) → drop (lesser s (length l)) l ≡ drop s l
+unfolding lesser
+drop-lesser s l = go (leb s (length l)) refl
   where
     go : (t : Bool) → leb s (length l) ≡ t → drop (cond t s (length l)) l ≡ drop s l
     go true e = refl
     go false e = let h = leb-false s (length l) e in let a : length l ≤ s = omega arith in let b : length l ≤ length l = omega arith in drop-of-length-le l b ∙ sym (drop-of-length-le l a)
 
-take-least : (m : ℕ) (l : List ℕ) → take (least m (length l)) l ≡ take m l
-unfolding least
-take-least m l = go (leb m (length l)) refl
+take-lesser : (m : ℕ) (l : List ℕ) → take (lesser m (length l)) l ≡ take m l
+unfolding lesser
+take-lesser m l = go (leb m (length l)) refl
   where
     go : (t : Bool) → leb m (length l) ≡ t → take (cond t m (length l)) l ≡ take m l
     go true e = refl
     go false e = let h = leb-false m (length l) e in let a : length l ≤ m = omega arith in let b : length l ≤ length l = omega arith in take-all (length l) l b ∙ sym (take-all m l a)
 
-pub cut : (p : Params) (ws : List ℕ) (w : ℕ) {from to : ℕ} → from ≡ least (w * (p .n + 1)) (length ws) → to ≡ from + least (p .n + 1) (length ws - from) → take (to - from) (drop from ws) ≡ cipherAt p ws w
+pub cut : (p : Params) (ws : List ℕ) (w : ℕ) {from to : ℕ} → from ≡ lesser (w * (p .n + 1)) (length ws) → to ≡ from + lesser (p .n + 1) (length ws - from) → take (to - from) (drop from ws) ≡ cipherAt p ws w
 unfolding cipherAt part
 cut p ws w {from} {to} ef et =
     let m = p .n + 1 in
-    let count : to - from ≡ least m (length ws - from) = omega arith in
-    let whole : drop from ws ≡ drop (w * m) ws = ap (λ (k : ℕ). drop k ws) ef ∙ drop-least (w * m) ws in
-    ap (λ (k : ℕ). take k (drop from ws)) (count ∙ ap (least m) (sym (length-drop from ws))) ∙ take-least m (drop from ws) ∙ ap (take m) whole
+    let count : to - from ≡ lesser m (length ws - from) = omega arith in
+    let whole : drop from ws ≡ drop (w * m) ws = ap (λ (k : ℕ). drop k ws) ef ∙ drop-lesser (w * m) ws in
+    ap (λ (k : ℕ). take k (drop from ws)) (count ∙ ap (lesser m) (sym (length-drop from ws))) ∙ take-lesser m (drop from ws) ∙ ap (take m) whole

@@ -8,8 +8,8 @@ use Rattle.ways.specs.declared.Way.{Way}
 use Rattle.ways.specs.declared.Way.the-variants.{Known, Negated, Gate, NegatedGate, Choice}
 
 -- The less of two numbers.
-unfoldable pub least : ℕ → ℕ → ℕ
-least a b = cond (leb a b) a b
+unfoldable pub lesser : ℕ → ℕ → ℕ
+lesser a b = cond (leb a b) a b
 
 -- Wire x lies whole within so many words.
 abbrev pub Within : Params → ℕ → ℕ → Type 0

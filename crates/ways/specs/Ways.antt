@@ -10,9 +10,9 @@ use Rattle.switching.specs.Switched.{switched}
 use Rattle.gate_sums.specs.declared.Kind.{Kind}
 use Rattle.gate_sums.specs.declared.Kind.the-variants.{Nand, Or, And, Nor, AndNy, AndYn, OrNy, OrYn, Xor}
 use Rattle.gate_sums.specs.Sum.{summed, muxSum, constantOf}
-use Rattle.gates.specs.Gate.{rotatedSample}
 use Rattle.ways.specs.declared.Way.{Way}
 use Rattle.ways.specs.declared.Way.the-variants.{Known, Negated, Gate, NegatedGate, Choice}
+use Rattle.samples.specs.Sample.{rotatedSample}
 
 -- The table, by a circuit's kind from 0 on. Kind 8 has its Boolean meaning, so it runs xor and negates: the sum that the Rust calls `xnor` computes xor.
 unfoldable pub ways : List Way

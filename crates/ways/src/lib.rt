@@ -10,7 +10,7 @@ ghost use Rattle.gates.specs.Gate.{gated};
 ghost use Rattle.ways.specs.Ways.{wayOf, ran};
 ghost use Rattle.ways.specs.Refusals.{wayNumber};
 ghost use Rattle.ways.specs.Ciphers.{cipherAt};
-ghost use Rattle.ways.specs.Private.{least};
+ghost use Rattle.ways.specs.Private.{lesser};
 use gate_sums::Kind;
 use params::Answer;
 use params::Params;
@@ -104,7 +104,7 @@ pub fn run_way(
 
 // Where ciphertext w begins among len words, n + 1 words to a ciphertext; where that is past their end, the end.
 fn place(w: usize, n: u32, len: usize) -> usize
-    ensures { λ r. ⌜ r ≡ least (w * (n + 1)) len ⌝ }
+    ensures { λ r. ⌜ r ≡ lesser (w * (n + 1)) len ⌝ }
 {
     let words = n as usize + 1;
     let most = len / words;
@@ -116,7 +116,7 @@ fn place(w: usize, n: u32, len: usize) -> usize
 
 // The less of two numbers.
 fn less(a: usize, b: usize) -> usize
-    ensures { λ r. ⌜ r ≡ least a b ⌝ }
+    ensures { λ r. ⌜ r ≡ lesser a b ⌝ }
 {
     if a <= b {
         return a;

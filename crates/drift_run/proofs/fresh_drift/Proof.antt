@@ -8,7 +8,7 @@ use Rattle.params.specs.declared.Answer.{Answer}
 use Rattle.params.proofs.Answers.{kept, done, when-done}
 use Rattle.tlwe.specs.declared.Level.the-variants.{Zero}
 use Rattle.tlwe.specs.Key.{keyedNumber}
-use Rattle.drift.specs.Words.{freshWord}
+use Rattle.drift.specs.PrivateWords.{freshWord}
 use Rattle.drift.proofs.Suffice.{fresh-word}
 use Rattle.drift_run.specs.Run.{freshValue}
 use borrow.Author.Needs.{needs}

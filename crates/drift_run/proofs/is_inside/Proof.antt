@@ -2,11 +2,12 @@
 -- Assumes nothing.
 use Rattle.drift.specs.Whole.{inside}
 use borrow.Author.Needs.{needs}
+use Rattle.drift_size.specs.Size.{insideWord}
 use Rattle.drift_run.proofs.is_inside.Statement.{statement}
 use Rattle.drift_run.proofs.is_inside.Tie as tie
 
 returns : tie.Need-returns
-unfolding inside
+unfolding inside insideWord
 returns c = c .is-inside .ensures
 
 pub is-inside-spec : {M : Type 1} → statement M

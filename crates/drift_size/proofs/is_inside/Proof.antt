@@ -7,8 +7,10 @@ use borrow.Author.Needs.{needs}
 use Rattle.drift_size.proofs.is_inside.Statement.{statement}
 use Rattle.drift_size.proofs.is_inside.Tie as tie
 use Rattle.ring.specs.Word.{eighth}
+use Rattle.drift_size.specs.Size.{insideWord}
 
 returns : tie.Need-returns
+unfolding insideWord
 returns c = ap (λ (x : ℕ). ltb x eighth) (c .size-of .ensures)
 
 pub is-inside-spec : {M : Type 1} → statement M

@@ -4,20 +4,20 @@ use mathlib.Core.Path.{ap}
 use Prim.Native.Nat.{ℕ, _+_, _-_, _≤_}
 use native.Mathlib.Omega.{arith}
 use lib.ListN.{length}
-use Rattle.ways.proofs.Ciphers.{least-second, cut}
+use Rattle.ways.proofs.Ciphers.{lesser-second, cut}
 use borrow.Author.Needs.{needs}
 use Rattle.ways.proofs.ciphertext.Statement.{statement}
 use Rattle.ways.proofs.ciphertext.Tie as tie
 
 -- the part begins within the slice, and ends there
 begins : (c : tie.After-place) → c .place .result ≤ length (c .before .before .before .args .ws .now)
-begins c = rw (c .place .ensures) (least-second _ (length (c .before .before .before .args .ws .now)))
+begins c = rw (c .place .ensures) (lesser-second _ (length (c .before .before .before .args .ws .now)))
 
 ends : (c : tie.After-less) → c .before .place .result + c .less .result ≤ length (c .before .before .before .before .args .ws .now)
 ends c =
     let b = begins (c .before) in
     let e = c .less .ensures in
-    let l = least-second (c .before .before .before .before .args .p .n + 1) (length (c .before .before .before .before .args .ws .now) - c .before .place .result) in
+    let l = lesser-second (c .before .before .before .before .args .p .n + 1) (length (c .before .before .before .before .args .ws .now) - c .before .place .result) in
     omega (arith, b, e, l)
 
 add-to : tie.Need-add-to

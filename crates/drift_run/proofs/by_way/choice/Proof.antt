@@ -4,7 +4,7 @@ use mathlib.Core.Path.{ap, _∙_}
 use Prim.Native.Nat.{ℕ, _+_, _%_}
 use Rattle.ring.specs.Word.{Q, neg, eighth}
 use Rattle.tlwe.specs.Plain.{bitWord}
-use Rattle.drift.specs.Short.{carriedWord, shortWord}
+use Rattle.drift.specs.PrivateShort.{carriedWord, shortWord}
 use Rattle.drift_run.proofs.Told.{told-two, carried-sum}
 use borrow.Author.Needs.{needs}
 use Rattle.drift_run.proofs.by_way.choice.Statement.{statement}

@@ -4,7 +4,7 @@ use mathlib.Core.Path.{sym, ap, ap₂, _∙_}
 use Prim.Native.Nat.{ℕ, _+_, _%_}
 use Rattle.ring.specs.Word.{Q, neg}
 use Rattle.tlwe.specs.Plain.{bitWord}
-use Rattle.drift.specs.Short.{carriedWord, shortWord}
+use Rattle.drift.specs.PrivateShort.{carriedWord, shortWord}
 use Rattle.drift_run.proofs.Told.{told-one}
 use borrow.Author.Needs.{needs}
 use Rattle.drift_run.proofs.by_way.one.Statement.{statement}

@@ -4,10 +4,10 @@ use mathlib.Core.Path.{sym, ap, ap₂, _∙_}
 use Prim.Native.Nat.{ℕ, _+_, _%_}
 use Rattle.ring.specs.Word.{Q, neg}
 use Rattle.tlwe.specs.Plain.{bitWord}
-use Rattle.drift.specs.Short.{carriedWord, shortWord}
+use Rattle.drift.specs.PrivateShort.{carriedWord, shortWord}
 use Rattle.drift_run.proofs.Told.{told-one}
 use Rattle.gate_sums.specs.Sum.{summed}
-use Rattle.drift.specs.Short.{sideOf}
+use Rattle.drift.specs.PrivateShort.{sideOf}
 use Rattle.drift.proofs.Short.{twice}
 use borrow.Author.Needs.{needs}
 use Rattle.drift_run.proofs.by_way.one_negated.Statement.{statement}

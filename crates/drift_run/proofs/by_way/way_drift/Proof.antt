@@ -5,8 +5,8 @@ use mathlib.Core.List.{[]}
 use Prim.Native.Nat.{ℕ}
 use Rattle.ways.specs.declared.Way.{Way}
 use Rattle.ways.specs.Ways.{rotationsOf, rotationSum}
-use Rattle.drift.specs.CircuitWords.{wayBroughtWords}
-use Rattle.drift.specs.Short.{carriedWord, shortWord}
+use Rattle.drift.specs.PrivateCircuit.{wayBroughtWords}
+use Rattle.drift.specs.PrivateShort.{carriedWord, shortWord}
 use Rattle.drift_run.specs.Private.{drifted}
 use borrow.Author.Needs.{needs}
 use Rattle.drift_run.proofs.by_way.way_drift.Statement.{statement}

@@ -3,7 +3,7 @@
 use mathlib.Core.Path.{ap₂, _∙_}
 use Prim.Native.Nat.{ℕ, _+_, _%_}
 use Rattle.ring.specs.Word.{Q, neg}
-use Rattle.drift.specs.Words.{freshWord}
+use Rattle.drift.specs.PrivateWords.{freshWord}
 use borrow.Author.Needs.{needs}
 use Rattle.drift_run.proofs.gates_of.fresh.Statement.{statement}
 use Rattle.drift_run.proofs.gates_of.fresh.Tie as tie

@@ -7,8 +7,8 @@ use native.Mathlib.Omega.{arith}
 use lib.ListN.{length, take, drop}
 use Rattle.circuit.specs.Form.{inputs, gates}
 use Rattle.encrypted_run.proofs.Operands.{gates-are}
-use Rattle.drift.specs.CircuitWords.{allWords}
-use Rattle.drift.specs.Short.{shortTo, shortBroughtTo}
+use Rattle.drift.specs.PrivateCircuit.{allWords}
+use Rattle.drift.specs.PrivateShort.{shortTo, shortBroughtTo}
 use Rattle.drift_run.specs.declared.by_way.Drifted.{Drifted}
 use Rattle.drift_run.proofs.Drifts.{brought-none, gates-none, brought-more, gates-more, brought-end, gates-end}
 use Rattle.drift_run.proofs.gates_of.gates_into.Statement.{statement}

@@ -10,8 +10,8 @@ use Rattle.ring.specs.Sums.{tab}
 use Rattle.ring.proofs.Tab.{tab-none, tab-more, tab-part}
 use Rattle.ways.specs.Ciphers.{cipherAt}
 use Rattle.ways.proofs.Ciphers.{wire-within}
-use Rattle.drift.specs.Words.{freshWord}
-use Rattle.drift.specs.CircuitWords.{freshWords}
+use Rattle.drift.specs.PrivateWords.{freshWord}
+use Rattle.drift.specs.PrivateCircuit.{freshWords}
 use Rattle.drift_run.proofs.Lent.{read-length}
 use Rattle.drift_run.proofs.gates_of.inputs_into.Statement.{statement}
 use Rattle.drift_run.proofs.gates_of.inputs_into.Tie as tie

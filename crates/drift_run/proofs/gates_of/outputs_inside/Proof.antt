@@ -7,11 +7,11 @@ use Rattle.ring.specs.Word.{at}
 use Rattle.ring.specs.Sums.{tab}
 use Rattle.circuit.specs.Form.{outputs, outputAt}
 use Rattle.encrypted_run.proofs.Operands.{outputs-are, there}
-use Rattle.drift.specs.Words.{insideWord}
-use Rattle.drift.specs.CircuitWords.{allWords, outputWords}
+use Rattle.drift.specs.PrivateCircuit.{allWords, outputWords}
 use Rattle.drift_run.proofs.Drifts.{all-none, all-more, all-done}
 use Rattle.drift_run.proofs.gates_of.outputs_inside.Statement.{statement}
 use Rattle.drift_run.proofs.gates_of.outputs_inside.Tie as tie
+use Rattle.drift_size.specs.Size.{insideWord}
 
 abbrev Inv-loop : tie.InvT-loop
 Inv-loop bytes drifts n inside₀ o₀ inside o = (n ≡ outputs bytes) × (o ≤ outputs bytes) × (inside ≡ allWords (tab o (λ k. at drifts (outputAt bytes k))))
@@ -26,7 +26,6 @@ add-o : tie.Need-add-o Inv-loop μ-loop
 add-o c = let h = c .before .before .before .before .before .before .before .before .before .pre .head .outputs-to in omega arith
 
 loop-again : tie.Need-loop-again Inv-loop μ-loop
-unfolding insideWord
 loop-again c =
     let l = c .before .before .before .before .before .loop in
     let g = c .before .before .before .before .before .before .before .before .before .args in

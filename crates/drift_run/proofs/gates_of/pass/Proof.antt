@@ -6,8 +6,8 @@ use mathlib.Core.List.{List}
 use Prim.Native.Nat.{ℕ, _+_, _*_}
 use native.Mathlib.Omega.{arith}
 use Rattle.circuit.specs.Form.{gates}
-use Rattle.drift.specs.CircuitWords.{allWords, outputWords}
-use Rattle.drift.specs.Short.{shortTo, shortBroughtTo}
+use Rattle.drift.specs.PrivateCircuit.{allWords, outputWords}
+use Rattle.drift.specs.PrivateShort.{shortTo, shortBroughtTo}
 use Rattle.drift_run.proofs.Drifts.{start-is}
 use borrow.Author.Needs.{needs}
 use Rattle.drift_run.proofs.gates_of.pass.Statement.{statement}

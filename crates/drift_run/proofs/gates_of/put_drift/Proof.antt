@@ -7,12 +7,12 @@ use lib.ListN.{length, take}
 use lib.Seq.{length-take-le}
 use Rattle.circuit.specs.Form.{inputs}
 use Rattle.encrypted_run.proofs.Operands.{inputs-are}
-use Rattle.drift.specs.CircuitWords.{gateBroughtWords}
-use Rattle.drift.specs.Short.{shortGate}
+use Rattle.drift.specs.PrivateCircuit.{gateBroughtWords}
+use Rattle.drift.specs.PrivateShort.{shortGate}
 use Rattle.drift_run.specs.declared.by_way.Drifted.{Drifted}
 use Rattle.drift_run.specs.Private.{drifted}
 use Rattle.drift_run.proofs.Lent.{own-in, own-to}
-use Rattle.drift_run.proofs.Drifts.{put-made}
+use Rattle.drift_run.proofs.Drifts.{drift-made}
 use borrow.Author.Needs.{needs}
 use Rattle.drift_run.proofs.gates_of.put_drift.Statement.{statement}
 use Rattle.drift_run.proofs.gates_of.put_drift.Tie as tie
@@ -57,7 +57,7 @@ returns c =
     let h = own-in (g .bytes .now) (s .pre .0 .finished .valid) (g .g) (s .pre .1) in
     let there = ap (λ (k : ℕ). drifted (shortGate (g .p) (g .key .now) (g .bytes .now) (g .wires .now) (take k (g .drifts .now)) (g .g)) (gateBroughtWords (g .p) (g .key .now) (g .bytes .now) (g .wires .now) (take k (g .drifts .now)) (g .g))) e in (
       c .gate-told .ensures ∙ there,
-      put-made (g .p) (g .key .now) (g .bytes .now) (g .wires .now) (g .drifts .now) (g .g) e (omega (arith, h, d)) (ap (λ (t : Drifted). t .drift) (c .gate-told .ensures)),
+      drift-made (g .p) (g .key .now) (g .bytes .now) (g .wires .now) (g .drifts .now) (g .g) e (omega (arith, h, d)) (ap (λ (t : Drifted). t .drift) (c .gate-told .ensures)),
     )
 
 pub put-drift-spec : {M : Type 1} → statement M

@@ -7,7 +7,7 @@ use lib.Dec.{ltb}
 use Rattle.ring.specs.Word.{Q}
 use Rattle.params.proofs.Ranges.{in-range}
 use Rattle.gate_sums.specs.declared.Weights.{Weights}
-use Rattle.drift.specs.Short.{sideOf}
+use Rattle.drift.specs.PrivateShort.{sideOf}
 use Rattle.drift_run.proofs.Steps.{size-power, brought-is}
 use borrow.Author.Needs.{needs}
 use Rattle.drift_run.proofs.turns.rotation.Statement.{statement}

@@ -1,15 +1,12 @@
 -- The drift of a gate (01, Drift), as words: what code and proofs reckon with. Every part is reckoned modulo 2^32, and a drift is centred at its end (`centre` of the ring);
 -- `words-suffice` (proofs/Suffice.antt) shows that each is the word of the whole number that specs/Whole.antt defines. key and z are the secret keys of level 0
--- and 1, bsk and ksk the bootstrapping and the switching key, whose rows may hold anything; src is a gate's sum before rotation.
+-- and 1, bsk and ksk the bootstrapping and the switching key, whose rows may hold anything; src is a gate's sum before rotation. A reader of the public contracts can leave this file.
 use mathlib.Core.Bool.{Bool}
 use mathlib.Core.List.{List}
 use Prim.Native.Nat.{ℕ, _+_, _*_, _/_, _%_}
-use lib.Dec.{ltb}
-use lib.IntN.{natAbs}
-use Rattle.ring.specs.Word.{Q, at, neg, eighth}
+use Rattle.ring.specs.Word.{Q, at, neg}
 use Rattle.ring.specs.Sums.{sumTo}
 use Rattle.ring.specs.Phase.{after, phaseOf}
-use Rattle.ring.specs.Centre.{centre}
 use Rattle.params.specs.declared.Params.{Params}
 use Rattle.params.specs.Sizes.{size}
 use Rattle.tlwe.specs.Plain.{bitWord}
@@ -19,8 +16,8 @@ use Rattle.switching.specs.Drift.{switchingDrift}
 use Rattle.gate_sums.specs.declared.Kind.{Kind}
 use Rattle.gate_sums.specs.Weights.{weightsOf}
 use Rattle.gate_sums.specs.Sum.{muxSum}
-use Rattle.gates.specs.Gate.{rotatedSample}
 use Rattle.key.specs.Testvec.{testPair}
+use Rattle.samples.specs.Sample.{rotatedSample}
 
 -- ---- what is brought in
 
@@ -39,10 +36,6 @@ roundingWord p key src = (remainderWord p (at src (p .n)) + neg (selectedWord p 
 -- Brought in: the operands' drifts da and db by the sum's multiples, and what rounding brings in.
 unfoldable pub broughtWord : Params → Kind → List ℕ → List ℕ → ℕ → ℕ → ℕ
 broughtWord p kind key src da db = (weightsOf kind .a * da + weightsOf kind .b * db + roundingWord p key src) % Q
-
--- Inside: the centred drift's absolute value is below 2^29.
-unfoldable pub insideWord : ℕ → Bool
-insideWord drift = ltb (natAbs (centre drift)) eighth
 
 -- ---- extraction and switching
 

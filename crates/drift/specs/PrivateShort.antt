@@ -1,5 +1,5 @@
--- The short way to a wire's drift, which the code goes (proofs/Sides.antt shows that it is the drift of specs/Words.antt): since the accumulator's phase is always the test
--- vector turned, plus the tracked drift, a gate's drift is its wire's phase less ±2^29 by the side on which the rounded turn falls. That side need not be the plain bit.
+-- The short way to a wire's drift, which the code goes (proofs/Sides.antt shows that it is the drift of specs/PrivateWords.antt): since the accumulator's phase is always the test
+-- vector turned, plus the tracked drift, a gate's drift is its wire's phase less ±2^29 by the side on which the rounded turn falls. That side need not be the plain bit. A reader of the public contracts can leave this file.
 use mathlib.Core.Bool.{Bool, cond}
 use mathlib.Core.List.{List, [], _∷_, _++_}
 use Prim.Native.Nat.{ℕ, zero, suc, _+_, _%_}
@@ -17,7 +17,7 @@ use Rattle.ways.specs.declared.Way.{Way}
 use Rattle.ways.specs.declared.Way.the-variants.{Known, Negated, Gate, NegatedGate, Choice}
 use Rattle.ways.specs.Ways.{wayOf}
 use Rattle.ways.specs.Ciphers.{cipherAt}
-use Rattle.drift.specs.CircuitWords.{gateBroughtWords}
+use Rattle.drift.specs.PrivateCircuit.{gateBroughtWords}
 use Rattle.ring.specs.Phase.{phaseOf}
 
 -- Does the rounded phase of the sum src, in steps modulo 2N, fall below N? It is the place that the turns bring to the front.

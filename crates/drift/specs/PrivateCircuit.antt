@@ -1,23 +1,21 @@
--- The drifts of a circuit's wires and rotations as words: what specs/Circuit.antt defines in whole numbers, brought modulo 2^32 (proofs/Lists.antt).
+-- The drifts of a circuit's wires and rotations as words: what specs/Circuit.antt defines in whole numbers, brought modulo 2^32 (proofs/Lists.antt). A reader of the public contracts can leave this file.
 use mathlib.Core.Bool.{Bool, true, false, cond}
 use mathlib.Core.List.{List, [], _∷_, _++_, map}
 use Prim.Native.Nat.{ℕ, zero, suc, _%_}
-use lib.Dec.{ltb}
-use lib.IntN.{natAbs}
 use Rattle.ring.specs.Word.{Q, at, neg}
 use Rattle.ring.specs.Sums.{tab}
-use Rattle.ring.specs.Centre.{centre}
 use Rattle.params.specs.declared.Params.{Params}
 use Rattle.gate_sums.specs.declared.Kind.the-variants.{And, AndNy}
 use Rattle.gate_sums.specs.Sum.{summed}
-use Rattle.circuit.specs.Form.{inputs, gates, outputs, kindAt, operandAt, outputAt}
+use Rattle.circuit.specs.Form.{inputs, outputs, kindAt, operandAt, outputAt}
 use Rattle.ways.specs.declared.Way.{Way}
 use Rattle.ways.specs.declared.Way.the-variants.{Known, Negated, Gate, NegatedGate, Choice}
 use Rattle.ways.specs.Ways.{wayOf, operand, rotationsOf, rotationSum}
 use Rattle.ways.specs.Ciphers.{cipherAt}
 use Rattle.encrypted_run.specs.Run.{ciphersTo}
-use Rattle.drift.specs.Words.{insideWord, freshWord, broughtWord, gateWord, muxWord}
+use Rattle.drift.specs.PrivateWords.{freshWord, broughtWord, gateWord, muxWord}
 use Rattle.ring.specs.Bit.{truth}
+use Rattle.drift_size.specs.Size.{insideWord, worseWord}
 
 -- The drift of a way on operands a, b and c, the drift of a being da.
 unfoldable pub wayWord : Params → List ℕ → List ℕ → List ℕ → List ℕ → Way → List ℕ → List ℕ → List ℕ → ℕ → ℕ
@@ -71,10 +69,6 @@ allWords (d ∷ ds) = cond (insideWord d) (allWords ds) false
 -- The outputs' drifts, from the wires'.
 unfoldable pub outputWords : List ℕ → List ℕ → List ℕ
 outputWords bs ds = tab (outputs bs) (λ o. at ds (outputAt bs o))
-
--- The one of two that is larger in absolute value, the first at a tie.
-unfoldable pub worseWord : ℕ → ℕ → ℕ
-worseWord x y = cond (ltb (natAbs (centre x)) (natAbs (centre y))) y x
 
 -- The one of these and of w that is largest in absolute value.
 unfoldable pub worstWords : ℕ → List ℕ → ℕ

@@ -1,0 +1,15 @@
+-- How large a drift is (01, Drift), of words that are read as signed.
+use mathlib.Core.Bool.{Bool, cond}
+use Prim.Native.Nat.{ℕ}
+use lib.Dec.{ltb}
+use lib.IntN.{natAbs}
+use Rattle.ring.specs.Word.{eighth}
+use Rattle.ring.specs.Centre.{centre}
+
+-- Inside: the centred drift's absolute value is below 2^29.
+unfoldable pub insideWord : ℕ → Bool
+insideWord drift = ltb (natAbs (centre drift)) eighth
+
+-- The one of two that is larger in absolute value, the first at a tie.
+unfoldable pub worseWord : ℕ → ℕ → ℕ
+worseWord x y = cond (ltb (natAbs (centre x)) (natAbs (centre y))) y x
