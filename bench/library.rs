@@ -29,6 +29,8 @@ declare! {
     fn egl_trgsw_blind_rotate(src: In, src_len: usize, key: In, key_len: usize, x: Out, x_len: usize, y: Out, y_len: usize);
     #[cfg(group_gates)]
     fn egl_gates_nand(a: In, a_len: usize, b: In, b_len: usize, s: In, s_len: usize, k: In, k_len: usize, out: Out, out_len: usize);
+    #[cfg(group_column)]
+    fn egl_gate_column(kind: usize, count: usize, pairs: In, pairs_len: usize, s: In, s_len: usize, k: In, k_len: usize, out: Out, out_len: usize);
     #[cfg(group_drift)]
     fn egl_circuit_run_encrypted(s: In, s_len: usize, k: In, k_len: usize, c: Bytes, c_len: usize, ins: In, ins_len: usize, wires: Out, wires_len: usize, out: Out, out_len: usize);
     #[cfg(group_drift)]
@@ -88,6 +90,13 @@ pub fn blind_rotate(p: &[u32; 6], src: &[u32], key: &[u32], x: &mut [u32], y: &m
 #[cfg(group_gates)]
 pub fn nand(p: &[u32; 6], a: &[u32], b: &[u32], s: &[u32], k: &[u32], out: &mut [u32]) {
     done!(p, egl_gates_nand(a.as_ptr(), a.len(), b.as_ptr(), b.len(), s.as_ptr(), s.len(), k.as_ptr(), k.len(), out.as_mut_ptr(), out.len()))
+}
+
+/// A column of nands: kind 5.
+#[cfg(group_column)]
+pub fn column_of_nands(p: &[u32; 6], pairs: &[u32], s: &[u32], k: &[u32], out: &mut [u32]) {
+    let count = out.len() / (p[0] as usize + 1);
+    done!(p, egl_gate_column(5, count, pairs.as_ptr(), pairs.len(), s.as_ptr(), s.len(), k.as_ptr(), k.len(), out.as_mut_ptr(), out.len()))
 }
 
 /// The words that a run is lent: the switching key, the bootstrapping key and the inputs' ciphertexts, then the wires' and the outputs' to be written.

@@ -1,5 +1,7 @@
 //! The proved library beside plain Rust and a transform in doubles, as ratios in one run.
 
+#[cfg(group_column)]
+mod column;
 mod library;
 mod measure;
 mod plain;
@@ -209,6 +211,10 @@ fn main() {
     #[cfg(group_gates)]
     if wanted("gates") {
         gate();
+    }
+    #[cfg(group_column)]
+    if wanted("column") {
+        column::run();
     }
     #[cfg(group_circuit)]
     if wanted("circuit") {

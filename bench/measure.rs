@@ -23,34 +23,47 @@ fn ran() -> f64 {
     time[0] as f64 + time[1] as f64 * 1e-9
 }
 
-/// The seconds of one call.
-fn seconds(call: &mut dyn FnMut()) -> f64 {
+/// What a call took, in microseconds: by its thread's clock where it is long, and by the clock on the wall, which alone tells of a call that runs on several threads.
+#[derive(Clone, Copy)]
+pub struct Time {
+    pub thread: f64,
+    pub wall: f64,
+}
+
+fn time(call: &mut dyn FnMut()) -> Time {
     let before = ran();
     let start = Instant::now();
     call();
-    let passed = start.elapsed().as_secs_f64();
+    let wall = start.elapsed().as_secs_f64();
     // reading the thread's clock takes a part of a microsecond, which a short call would show
-    if passed < 0.01 { passed } else { ran() - before }
+    let thread = if wall < 0.01 { wall } else { ran() - before };
+    Time { thread: thread * 1e6, wall: wall * 1e6 }
 }
 
-/// The least time of one call of each way, in microseconds, over so many rounds.
-pub fn least(ways: &mut [Way], rounds: usize) -> Vec<f64> {
-    let mut times = vec![f64::INFINITY; ways.len()];
+/// The least time of one call of each way by either clock, over so many rounds.
+pub fn least(ways: &mut [Way], rounds: usize) -> Vec<Time> {
+    let mut times = vec![Time { thread: f64::INFINITY, wall: f64::INFINITY }; ways.len()];
     for _ in 0..rounds {
-        for (time, way) in times.iter_mut().zip(ways.iter_mut()) {
-            *time = time.min(seconds(&mut way.call) * 1e6);
+        for (least, way) in times.iter_mut().zip(ways.iter_mut()) {
+            let time = time(&mut way.call);
+            *least = Time { thread: least.thread.min(time.thread), wall: least.wall.min(time.wall) };
         }
     }
     times
 }
 
-/// Measures and prints a table: each way's time, and as a multiple of the way called `unit`.
-pub fn table(title: &str, mut ways: Vec<Way>, rounds: usize, unit: &str) -> Vec<f64> {
-    let times = least(&mut ways, rounds);
-    let base = ways.iter().position(|w| w.name == unit).expect("a way of that name");
+/// Prints a table: each way's time, and as a multiple of the way called `unit`.
+pub fn print(title: &str, rounds: usize, lines: &[(&str, f64)], unit: &str) {
+    let base = lines.iter().find(|line| line.0 == unit).expect("a way of that name").1;
     println!("{title} ({rounds} rounds)");
-    for (way, time) in ways.iter().zip(&times) {
-        println!("  {:<44} {time:>12.2} us   {:>7.3}", way.name, time / times[base]);
+    for (name, time) in lines {
+        println!("  {name:<44} {time:>12.2} us   {:>7.3}", time / base);
     }
-    times
+}
+
+/// Measures by the thread's clock and prints.
+pub fn table(title: &str, mut ways: Vec<Way>, rounds: usize, unit: &str) {
+    let times = least(&mut ways, rounds);
+    let lines: Vec<_> = ways.iter().zip(times).map(|(way, time)| (way.name, time.thread)).collect();
+    print(title, rounds, &lines, unit);
 }

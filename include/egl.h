@@ -3,22 +3,24 @@
  * Calls. Every function takes any numbers and any buffers. It does its work or gives a refusal, and a refused call has written to none of the
  * memory lent to it. A buffer is a pointer and the number of its elements (not bytes). The pointer must be valid for that many elements,
  * aligned for one element, and, where it is written to, must not overlap another buffer of the call. With length 0 the pointer is not followed and may
- * be NULL. No function allocates, keeps a pointer, or needs more than 64 KB of stack (the deepest, a drift run, takes about 56,320 bytes).
+ * be NULL. No function allocates, keeps a pointer, or needs more than 64 KB of stack (the deepest, a drift run, takes 52,256 bytes).
  *
  * Threads. Nothing is kept between calls and nothing is shared but what you lend: any functions may run in any threads at once, as long as no buffer that
  * one call writes to is lent to another at the same time. Keys are never written to, so one key serves all threads.
  *
  * Answers. The answer is one number of 64 bits: the refusal in its low half, 0 when the work is done, and the place in its high half (only refusals
- * 6 to 10, those of circuits, have one). A function that gives a number beside its answer, as a decryption, puts it into the high half instead
- * (EGL_VALUE); it is 0 beside a refusal, but that those of egl_circuit_work, egl_drift_run and egl_drift_gate have their place there. Checks go in
- * the order of the numbers, but that a circuit under 11 bytes gets 8 before 6 and 7, and the lengths that depend on a circuit (2) come after it:
+ * 6 to 10, those of circuits, have one; a column's kind, which gets 9 too, has place 0). A function that gives a number beside its answer, as a decryption,
+ * puts it into the high half instead (EGL_VALUE); it is 0 beside a refusal, but that those of egl_circuit_work, egl_drift_run and egl_drift_gate have their
+ * place there. Checks go in the order of the numbers, but that a circuit under 11 bytes gets 8 before 6 and 7, and the lengths that depend on a circuit (2)
+ * come after it:
  *   1  a parameter is outside its range
  *   2  a buffer has not exactly its stated length
  *   3  rotation amount above 2N, extraction index N or more, or a key row's index outside its range
  *   4  a secret key word is neither 0 nor 1
  *   5  message modulus not 2, 4, 8, 16, 32 or 64
  *   6  circuit: wrong mark      7  circuit: version not 1      8  circuit: length or count
- *   9  circuit: a gate         10  circuit: an output
+ *   9  circuit: a gate; column: a kind that is not 3 to 12
+ *  10  circuit: an output
  *
  * Parameters: n 1..1,100; nbit 1..10, N = 2^nbit; bgbit 1..24, l at least 1, l * bgbit at most 32; basebit 1..6, t at least 1,
  * basebit * t at most 30. A word (uint32_t) counts 2^-32 of a turn.
@@ -37,7 +39,7 @@ extern "C" {
 
 /* The interface that this header describes. One more with each release in which a function is added, taken away or changed: where egl_version() gives another number, header and
  * archive do not belong together. */
-#define EGL_VERSION 1
+#define EGL_VERSION 2
 
 /* The interface that the archive has. */
 uint32_t egl_version(void);
@@ -283,6 +285,18 @@ egl_answer egl_gates_copy(EGL_PARAMS, const uint32_t *a, size_t a_len, uint32_t 
 
 /* A bit, 0 or not 0, that every key decrypts: n words of 0, then 0x20000000 for true, 0xE0000001 for false. */
 egl_answer egl_gates_constant(EGL_PARAMS, uint32_t bit, uint32_t *out, size_t out_len);
+
+/* ---- a column: the same gate on many pairs ---- */
+
+/* The gate of a kind on count pairs. kind is a circuit's number (see below): 3 is egl_gates_and, 4 or, 5 nand, 6 nor, 7 xor, 8 not (a xor b), 9 and_ny, 10 and_yn,
+ * 11 or_ny, 12 or_yn. pairs has count * 2 * (n + 1) words, pair after pair, a then b; out has count * (n + 1), a ciphertext for each pair. The words are those of
+ * one call of the gate for each pair, and a pair changes no result but its own. Kind 8 has its Boolean meaning: its words are those of egl_gates_xor and then
+ * egl_gates_not (the original's batch_xnor computes xor). With count 0 nothing is written, and the answer is 0 where nothing is refused.
+ *
+ * A pair takes as long as egl_gates_nand, and the thread that calls does them all. A caller who wants several processors cuts pairs and out between the same
+ * pairs and calls in several threads, a part each; one who wants to see progress calls part after part. The words are the same. Refusals 1, 2 (also for a count
+ * whose words are more than a size_t holds), 9 with place 0 for a kind that is not 3 to 12. */
+egl_answer egl_gate_column(EGL_PARAMS, size_t kind, size_t count, const uint32_t *pairs, size_t pairs_len, const uint32_t *ksk, size_t ksk_len, const uint32_t *bsk, size_t bsk_len, uint32_t *out, size_t out_len);
 
 /* ---- circuits, as bytes ----
  *

@@ -141,6 +141,23 @@ impl Cloud for Keys {
         };
         out.p.to_vec()
     }
+
+    fn batch(&self, name: &str, pairs: &[u32]) -> Vec<u32> {
+        let words = params::tlwe_lv0::N + 1;
+        let cipher = |p: &[u32]| tlwe::TLWELv0 { p: array(p) };
+        let pairs: Vec<_> = pairs.chunks(2 * words).map(|pair| (cipher(&pair[..words]), cipher(&pair[words..]))).collect();
+        let (k, pool) = (&self.0, crate::parallel::default_railgun());
+        let out = match name {
+            "nand" => gates::batch_nand_with_railgun(&pairs, k, pool),
+            "and" => gates::batch_and_with_railgun(&pairs, k, pool),
+            "or" => gates::batch_or_with_railgun(&pairs, k, pool),
+            "xor" => gates::batch_xor_with_railgun(&pairs, k, pool),
+            "nor" => gates::batch_nor_with_railgun(&pairs, k, pool),
+            "xnor" => gates::batch_xnor_with_railgun(&pairs, k, pool),
+            _ => panic!("no batch of {name}"),
+        };
+        out.iter().flat_map(|c| c.p).collect()
+    }
 }
 
 /// The original for the set that this copy was made for.

@@ -10,6 +10,8 @@ pub trait Cloud: Sync {
     fn identity_key_switching(&self, src: &[u32]) -> Vec<u32>;
     /// A gate by the name it has in the original; `c` is read by the mux gates alone.
     fn gate(&self, name: &str, a: &[u32], b: &[u32], c: &[u32]) -> Vec<u32>;
+    /// A gate on pair after pair, by the original's batch function of that name: it has six.
+    fn batch(&self, name: &str, pairs: &[u32]) -> Vec<u32>;
 }
 
 /// The original, compiled for one parameter set. `level` is 0 or 1.

@@ -34,11 +34,24 @@ static void in(void *p, size_t n) { if (n && fread(p, 1, n, stdin) != n) exit(0)
 static void out(const void *p, size_t n) { if (n) fwrite(p, 1, n, stdout); }
 static uint64_t num(void) { uint64_t x; in(&x, 8); return x; }
 static double turn(void) { double x; in(&x, 8); return x; }
-typedef struct { void *p; size_t n; } slice;
-static slice lent(size_t size) { slice s; s.n = num(); s.p = malloc(s.n * size + 1); in(s.p, s.n * size); return s; }
+/* A lent slice is p, n elements between guards of 64 bytes; was holds what it was lent with, so that a call shows that writes what it may not write. */
+typedef struct { unsigned char *all, *p, *was; size_t n; } slice;
+enum { GUARD = 64, MARK = 0xA5 };
+static slice lent(size_t size) {
+    slice s; s.n = num(); size_t len = s.n * size;
+    s.all = malloc(len + 2 * GUARD); s.p = s.all + GUARD; s.was = malloc(len + 1);
+    memset(s.all, MARK, len + 2 * GUARD); in(s.p, len); memcpy(s.was, s.p, len);
+    return s;
+}
+static int kept(slice s, size_t size, int written) {
+    size_t len = s.n * size;
+    for (size_t i = 0; i < GUARD; i++) if (s.all[i] != MARK || s.p[len + i] != MARK) return 0;
+    return written || !memcmp(s.p, s.was, len);
+}
+static void done(slice s) { free(s.all); free(s.was); }
 "#;
 
-/// C's type, how an argument is read, how it is passed, and the element's size if it goes back.
+/// C's type, how an argument is read, how it is passed, and of a slice the element's size.
 fn parts(kind: &str, i: usize) -> (String, String, String, Option<u32>) {
     let (element, size) = match kind.trim_end_matches("_out") {
         "words" => ("uint32_t", 4),
@@ -50,8 +63,7 @@ fn parts(kind: &str, i: usize) -> (String, String, String, Option<u32>) {
         "u32" => return ("uint32_t".into(), format!("uint64_t a{i} = num();"), format!("(uint32_t)a{i}"), None),
         _ => return ("uint64_t".into(), format!("uint64_t a{i} = num();"), format!("a{i}"), None),
     };
-    let back = kind.ends_with("_out").then_some(size);
-    (format!("{element} *, size_t"), format!("slice a{i} = lent({size});"), format!("a{i}.p, a{i}.n"), back)
+    (format!("{element} *, size_t"), format!("slice a{i} = lent({size});"), format!("(void *)a{i}.p, a{i}.n"), Some(size))
 }
 
 fn one(name: &str, kinds: &[&str], with_params: bool) -> (String, String) {
@@ -61,22 +73,23 @@ fn one(name: &str, kinds: &[&str], with_params: bool) -> (String, String) {
         types = vec!["uint32_t".to_string(); 6];
         passed = (0..6).map(|i| format!("p[{i}]")).collect();
     }
-    let (mut reads, mut backs, mut frees) = (String::new(), String::new(), String::new());
+    let (mut reads, mut kept, mut backs, mut frees) = (String::new(), String::from("1"), String::new(), String::new());
     for (i, kind) in kinds.iter().enumerate() {
-        let (ty, read, pass, back) = parts(kind, i);
+        let (ty, read, pass, element) = parts(kind, i);
         types.push(ty);
         passed.push(pass);
         reads += &read;
-        if let Some(size) = back {
+        let Some(size) = element else { continue };
+        let written = kind.ends_with("_out");
+        kept += &format!(" && kept(a{i}, {size}, {})", written as u32);
+        frees += &format!("done(a{i});");
+        if written {
             backs += &format!("out(a{i}.p, a{i}.n * {size});");
-        }
-        if read.starts_with("slice") {
-            frees += &format!("free(a{i}.p);");
         }
     }
     let declared = format!("uint64_t {name}({});\n", types.join(", "));
     let case = format!(
-        "if (!strcmp(name, \"{name}\")) {{ {reads} uint64_t r = {name}({}); out(&r, 8); {backs} {frees} }} else ",
+        "if (!strcmp(name, \"{name}\")) {{ {reads} uint64_t r = {name}({}); if (!({kept})) r = UINT64_MAX; out(&r, 8); {backs} {frees} }} else ",
         passed.join(", ")
     );
     (declared, case)
@@ -106,12 +119,12 @@ fn source(ffi: &Path, files: &BTreeSet<&str>) -> String {
     // Three functions answer for whole lists at a time: there are millions of cases.
     let mut lists = String::new();
     if files.contains("params") {
-        lists += "if (!strcmp(name, \"params\")) { slice a = lent(24); for (size_t i = 0; i < a.n; i++) { uint32_t *q = (uint32_t *)a.p + 6 * i; uint64_t r = egl_params_check(q[0], q[1], q[2], q[3], q[4], q[5]); out(&r, 8); } free(a.p); } else\n        ";
+        lists += "if (!strcmp(name, \"params\")) { slice a = lent(24); for (size_t i = 0; i < a.n; i++) { uint32_t *q = (uint32_t *)a.p + 6 * i; uint64_t r = egl_params_check(q[0], q[1], q[2], q[3], q[4], q[5]); out(&r, 8); } done(a); } else\n        ";
     }
     if files.contains("utils") {
         head += "uint32_t egl_utils_f64_to_torus(double);\ndouble egl_utils_torus_to_f64(uint32_t);\n";
-        lists += "if (!strcmp(name, \"words\")) { slice a = lent(8); for (size_t i = 0; i < a.n; i++) { uint32_t r = egl_utils_f64_to_torus(((double *)a.p)[i]); out(&r, 4); } free(a.p); } else\n        ";
-        lists += "if (!strcmp(name, \"doubles\")) { slice a = lent(4); for (size_t i = 0; i < a.n; i++) { double r = egl_utils_torus_to_f64(((uint32_t *)a.p)[i]); out(&r, 8); } free(a.p); } else\n        ";
+        lists += "if (!strcmp(name, \"words\")) { slice a = lent(8); for (size_t i = 0; i < a.n; i++) { uint32_t r = egl_utils_f64_to_torus(((double *)a.p)[i]); out(&r, 4); } done(a); } else\n        ";
+        lists += "if (!strcmp(name, \"doubles\")) { slice a = lent(4); for (size_t i = 0; i < a.n; i++) { double r = egl_utils_torus_to_f64(((uint32_t *)a.p)[i]); out(&r, 8); } done(a); } else\n        ";
     }
     let read = "        char name[64]; uint32_t p[6]; uint64_t len = num(); if (len > 63) return 2; in(name, len); name[len] = 0; in(p, 24);\n";
     format!("{head}int main(void) {{\n    for (;;) {{\n{read}        {cases}{lists}return 3;\n        fflush(stdout);\n    }}\n}}\n")

@@ -53,6 +53,12 @@ pub enum Slot {
     WordsOut(Count),
     /// A gate's index in the circuit; one that no gate has is allowed.
     Gate,
+    /// The kind of a column's gates, one of two operands.
+    PairKind,
+    /// How many pairs the column has, and slices of so many words for each of them.
+    Pairs,
+    EachPair(Size),
+    EachPairOut(Size),
     /// Not passed: the number that stands in the answer's high half. Beside a refusal it is the place, which circuits' refusals alone have.
     Value,
 }
@@ -104,6 +110,21 @@ impl Arg {
             Arg::Bytes(v) => join(v.iter().map(|x| format!("{x:x}")).collect()),
             Arg::Longs(v) => join(v.iter().map(|x| format!("{x:x}")).collect()),
             Arg::Doubles(v) => join(v.iter().map(|x| format!("{:016x}", x.to_bits())).collect()),
+        }
+    }
+
+    /// A slice's bytes.
+    pub fn raw(&mut self) -> &mut [u8] {
+        fn bytes<T>(v: &mut [T]) -> &mut [u8] {
+            // SAFETY: numbers have no bytes but their own, and every byte may hold anything.
+            unsafe { std::slice::from_raw_parts_mut(v.as_mut_ptr().cast(), std::mem::size_of_val(v)) }
+        }
+        match self {
+            Arg::Words(v) => bytes(v),
+            Arg::Bytes(v) => v,
+            Arg::Longs(v) => bytes(v),
+            Arg::Doubles(v) => bytes(v),
+            Arg::Num(_) | Arg::Turn(_) => panic!("not a slice"),
         }
     }
 

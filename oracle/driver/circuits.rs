@@ -8,7 +8,7 @@ pub const KINDS: u64 = 14;
 /// Operands that each kind needs, and its value on bits.
 pub const NEEDS: [usize; 14] = [0, 0, 1, 2, 2, 2, 2, 2, 2, 2, 2, 2, 2, 3];
 
-fn value(kind: usize, a: bool, b: bool, c: bool) -> bool {
+pub fn value(kind: usize, a: bool, b: bool, c: bool) -> bool {
     match kind {
         0 => false,
         1 => true,

@@ -6,12 +6,14 @@ use crate::draw::{faulty, good};
 use crate::sizes::Sizes;
 use crate::source::Source;
 use crate::table;
+use std::collections::BTreeMap;
 
 /// What was compared, and what differed.
 #[derive(Default)]
 pub struct Tally {
     pub cases: u64,
-    pub refusals: u64,
+    /// How often each number was to be given.
+    pub refusals: BTreeMap<u32, u64>,
     pub words: u64,
     pub differences: u64,
     pub notes: Vec<String>,
@@ -41,6 +43,13 @@ impl Tally {
         self.differences += 1;
         if self.differences <= 5 {
             self.notes.push(what);
+        }
+    }
+
+    /// A call that was to be refused with this number, or with 0 to be done.
+    pub fn refused(&mut self, number: u32) {
+        if number != 0 {
+            *self.refusals.entry(number).or_default() += 1;
         }
     }
 
@@ -77,13 +86,13 @@ impl Tally {
             answer &= u32::MAX as u64;
         }
         self.cases += 1;
-        self.refusals += (number != 0) as u64;
+        self.refused(number);
         self.words += 1;
         if answer != wanted {
             self.differ(format!("{} at {p:?}: answer {answer:#x}, wanted {wanted:#x}", r.name));
         }
         for (i, slot) in r.slots.iter().enumerate() {
-            if let Slot::Out(..) | Slot::CiphersOut(_) | Slot::WordsOut(_) = slot {
+            if let Slot::Out(..) | Slot::CiphersOut(_) | Slot::WordsOut(_) | Slot::EachPairOut(_) = slot {
                 self.words += got[i].len() as u64;
             }
             if let Some(k) = got[i].differs(&want[i]) {
@@ -103,7 +112,7 @@ fn line(r: &Routine, p: &[u32; 6], args: &[Arg], number: u32, want: &[Arg]) -> S
     }
     out += &format!(" => {number}");
     for (slot, a) in r.slots.iter().zip(want) {
-        if let Slot::Out(..) | Slot::CiphersOut(_) | Slot::WordsOut(_) | Slot::Value = slot {
+        if let Slot::Out(..) | Slot::CiphersOut(_) | Slot::WordsOut(_) | Slot::EachPairOut(_) | Slot::Value = slot {
             out += &format!(" | {}", a.text());
         }
     }

@@ -5,6 +5,12 @@ use crate::circuits::{self, Circuit};
 use crate::sizes::{in_range, Sizes};
 use crate::source::Source;
 
+/// The lengths of columns.
+pub const PAIRS: [usize; 4] = [0, 1, 2, 7];
+
+/// Kinds that no column runs; the low bits of the last few are those of one that does.
+pub const OTHER_KINDS: [u64; 9] = [0, 1, 2, 13, 14, 255, 256 + 3, (1 << 32) + 3, u64::MAX];
+
 fn filled(source: &mut Source, kind: Kind, len: usize) -> Arg {
     match kind {
         Kind::Words => Arg::Words(source.words(len)),
@@ -20,6 +26,8 @@ pub fn good(source: &mut Source, r: &Routine, p: &[u32; 6]) -> Vec<Arg> {
     let mut out = Vec::new();
     // the circuit that later arguments go by
     let mut circuit = Circuit { inputs: 0, gates: Vec::new(), outputs: Vec::new() };
+    // and the column's pairs
+    let mut pairs = 0;
     for slot in r.slots {
         out.push(match slot {
             Slot::In(kind, len) => filled(source, *kind, len(&s)),
@@ -46,6 +54,13 @@ pub fn good(source: &mut Source, r: &Routine, p: &[u32; 6]) -> Vec<Arg> {
             Slot::BytesOf(count) => Arg::Bytes(source.bytes(count(&circuit))),
             Slot::WordsOut(count) => Arg::Words(source.words(count(&circuit))),
             Slot::Gate => Arg::Num(gate_index(source, circuit.gates.len() as u64)),
+            Slot::PairKind => Arg::Num(3 + source.below(10)),
+            Slot::Pairs => {
+                pairs = source.of(&PAIRS);
+                Arg::Num(pairs as u64)
+            }
+            Slot::EachPair(words) => Arg::Words(source.words(pairs * words(&s))),
+            Slot::EachPairOut(words) => Arg::Words((0..pairs * words(&s)).map(|_| source.next() as u32).collect()),
             Slot::Value => Arg::Num(u64::MAX),
         });
     }
@@ -64,6 +79,17 @@ pub fn small_circuit(source: &mut Source, kinds: u64) -> Vec<u8> {
     let gates = if source.below(8) == 0 { 0 } else { 1 + source.below(12) as usize };
     let outputs = 1 + source.below(5) as usize;
     circuits::valid(source, kinds, if gates == 0 { inputs + 1 } else { inputs }, gates, outputs)
+}
+
+/// Other counts than the slices' own, which have so many words for a ciphertext: one more, one less, and large ones. Of those the words pass 64 bits, or nearly;
+/// among them are all whose product, in words or in bytes, for pairs or for outputs, comes out modulo 2^64 as it was.
+pub fn other_counts(words: u64, pairs: u64) -> Vec<u64> {
+    let near = [pairs + 1, pairs.wrapping_sub(1), pairs + (1 << 32)];
+    let twos = words.trailing_zeros();
+    let again = (0..5).map(|less| pairs.wrapping_add(1u64.checked_shl(64 - less - twos).unwrap_or(0)));
+    let most = u64::MAX / words;
+    let limits = [1 << 63, u64::MAX, most, most + 1, most / 2, most / 2 + 1];
+    near.into_iter().chain(again).chain(limits).filter(|count| *count != pairs).collect()
 }
 
 fn resized(source: &mut Source, arg: &mut Arg) {
@@ -112,7 +138,9 @@ pub fn faulty(source: &mut Source, r: &Routine) -> ([u32; 6], Vec<Arg>) {
             }
             (Slot::Modulus, Arg::Num(m)) => *m = source.of(&[0, 1, 3, 6, 63, 65, 128, 1 << 32, (1 << 32) + 2, 1 << 63, u64::MAX]),
             (Slot::Circuit, Arg::Bytes(b)) => circuits::damage(source, b),
-            (Slot::In(..) | Slot::Out(..) | Slot::Key(_), a) => resized(source, a),
+            (Slot::PairKind, Arg::Num(kind)) => *kind = source.of(&OTHER_KINDS),
+            (Slot::Pairs, Arg::Num(pairs)) => *pairs = source.of(&other_counts(p[0] as u64 + 1, *pairs)),
+            (Slot::In(..) | Slot::Out(..) | Slot::Key(_) | Slot::EachPair(_) | Slot::EachPairOut(_), a) => resized(source, a),
             (Slot::Ciphers(_) | Slot::CiphersOut(_) | Slot::BytesOf(_) | Slot::WordsOut(_), a) => resized(source, a),
             _ => {}
         }

@@ -14,6 +14,9 @@ mod exact_words;
 mod ffi;
 mod groups;
 mod honest;
+mod junk;
+#[cfg(not(bridge))]
+mod lent;
 mod reckoned_run;
 mod reckoning;
 mod sizes;
@@ -54,7 +57,7 @@ fn lines(job: &Job, tally: &Tally, seconds: f64) -> String {
     let on = job.set.map_or(String::new(), |s| format!(" {} {:?}", s.name, s.p));
     let mut out = format!(
         "{}{on}: {} comparisons ({} of them refusals), {} words, {} differences, {seconds:.1} s",
-        job.group.name, tally.cases, tally.refusals, tally.words, tally.differences
+        job.group.name, tally.cases, tally.refusals.values().sum::<u64>(), tally.words, tally.differences
     );
     for note in &tally.notes {
         out += &format!("\n    {note}");
@@ -105,11 +108,13 @@ fn run_all(groups: &[Group], sets: &[Set]) -> (u64, BTreeSet<&'static str>) {
     for group in groups {
         let of: Vec<&Tally> = done.iter().filter(|d| jobs[d.0].group.name == group.name).map(|d| &d.1).collect();
         let sum = |f: fn(&Tally) -> u64| of.iter().map(|t| f(t)).sum::<u64>();
-        let (cases, refusals) = (sum(|t| t.cases), sum(|t| t.refusals));
-        let mut met = Tally::default();
+        let (cases, mut met) = (sum(|t| t.cases), Tally::default());
         of.iter().flat_map(|t| &t.remarks).for_each(|(what, times)| met.remarks(what, *times));
+        of.iter().flat_map(|t| &t.refusals).for_each(|(number, times)| *met.refusals.entry(*number).or_default() += times);
+        let by_number: Vec<String> = met.refusals.iter().map(|(number, times)| format!("{times} with {number}")).collect();
+        let refusals = if by_number.is_empty() { "no refusals".to_string() } else { format!("refusals {}", by_number.join(", ")) };
         let remarks: String = met.remarks.iter().map(|(what, times)| format!(" ({times} times: {what})")).collect();
-        println!("{}: {cases} comparisons in all, {refusals} refusals, {} differences{remarks}", group.name, sum(|t| t.differences));
+        println!("{}: {cases} comparisons in all, {refusals}; {} differences{remarks}", group.name, sum(|t| t.differences));
     }
     (done.iter().map(|d| d.1.differences).sum(), called.into_inner().unwrap())
 }

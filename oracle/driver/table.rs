@@ -38,6 +38,7 @@ fn apart(p: &[u32; 6], slots: &[Slot], args: &[Arg]) -> u32 {
         return 1;
     }
     let s = Sizes::of(p);
+    let pairs = slots.iter().position(|s| matches!(s, Slot::Pairs)).map_or(0, |at| args[at].num());
     let mut found = 0;
     let mut note = |number: u32| {
         if found == 0 || number < found {
@@ -50,6 +51,9 @@ fn apart(p: &[u32; 6], slots: &[Slot], args: &[Arg]) -> u32 {
             (Slot::Key(_), Arg::Words(w)) if w.iter().any(|&x| x > 1) => note(4),
             (Slot::Index(_, most), Arg::Num(x)) if *x > most(&s) as u64 => note(3),
             (Slot::Modulus, Arg::Num(m)) if ![2, 4, 8, 16, 32, 64].contains(m) => note(5),
+            // no count of 64 bits makes a whole number of 128 wrap
+            (Slot::EachPair(words) | Slot::EachPairOut(words), a) if a.len() as u128 != pairs as u128 * words(&s) as u128 => note(2),
+            (Slot::PairKind, Arg::Num(kind)) if !(3..=12).contains(kind) => note(9),
             _ => {}
         }
     }

@@ -40,6 +40,8 @@ extern "C" {
     fn egl_gates_copy(n: u32, nbit: u32, bgbit: u32, l: u32, basebit: u32, t: u32, a: *const u32, a_len: usize, out: *mut u32, out_len: usize) -> u64;
     fn egl_gates_constant(n: u32, nbit: u32, bgbit: u32, l: u32, basebit: u32, t: u32, bit: u32, out: *mut u32, out_len: usize) -> u64;
 
+    fn egl_gate_column(n: u32, nbit: u32, bgbit: u32, l: u32, basebit: u32, t: u32, kind: usize, count: usize, pairs: *const u32, pairs_len: usize, ksk: *const u32, ksk_len: usize, bsk: *const u32, bsk_len: usize, out: *mut u32, out_len: usize) -> u64;
+
     fn egl_circuit_check(bytes: *const u8, bytes_len: usize) -> u64;
     fn egl_circuit_work(bytes: *const u8, bytes_len: usize) -> u64;
     fn egl_circuit_run_plain(bytes: *const u8, bytes_len: usize, ins: *const u8, ins_len: usize, out: *mut u8, out_len: usize) -> u64;
@@ -126,6 +128,8 @@ safe! {
     not = egl_gates_not(a: words, out: written);
     copy = egl_gates_copy(a: words, out: written);
     constant = egl_gates_constant(value: bit, out: written);
+
+    gate_column = egl_gate_column(kind: usize, count: usize, pairs: words, key: cloud, out: written);
 
     run_encrypted = egl_circuit_run_encrypted(key: cloud, circuit: bytes, ins: words, wires: written, out: written);
     run_gate = egl_circuit_run_gate(key: cloud, circuit: bytes, gate: usize, wires: written);

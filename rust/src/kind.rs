@@ -1,6 +1,6 @@
 //! The kinds of gates in a circuit.
 
-/// What a gate of a circuit computes. The number is the one that stands in the circuit's bytes.
+/// What a gate of a circuit computes. The number is the one that stands in the circuit's bytes. A column takes those of two operands, 3 to 12.
 #[derive(Debug, Clone, Copy, PartialEq, Eq, Hash)]
 #[repr(u8)]
 pub enum Kind {
@@ -20,7 +20,7 @@ pub enum Kind {
     Nor = 6,
     /// 7: a xor b
     Xor = 7,
-    /// 8: not (a xor b), by its Boolean meaning: a run evaluates xor and negates
+    /// 8: not (a xor b), by its Boolean meaning: a run or a column evaluates xor and negates
     Xnor = 8,
     /// 9: (not a) and b
     AndNy = 9,

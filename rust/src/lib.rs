@@ -3,12 +3,13 @@
 //! The archive does the work and is proved: every call takes any numbers and any slices, does its work or gives one of ten numbered
 //! refusals, and a refused call has written to none of the memory lent to it. This crate turns lengths and pointers into slices, numbers into
 //! [`Refusal`], and adds what the archive leaves to its caller: memory, random numbers and noise. What it adds is ordinary Rust and not
-//! proved: [`Random`], [`Noise`] and the drawing of keys, [`Builder`], and the order in which [`Circuit`] and its runner lend slices.
+//! proved: [`Random`], [`Noise`] and the drawing of keys, [`Builder`], the order in which [`Circuit`] and its runner lend slices, and how
+//! [`CloudKey::column_in_threads`] cuts a column.
 //!
 //! Two ways to call:
 //!
-//! * everything lent: [`lent`] for encryption, decryption and generation of keys, [`CloudKey`] for gates. Nothing is drawn, and nothing allocated but
-//!   by [`CloudKey::evaluate`], which makes the place of its result.
+//! * everything lent: [`lent`] for encryption, decryption and generation of keys, [`CloudKey`] for gates and columns of them. Nothing is drawn, and nothing
+//!   allocated but by [`CloudKey::evaluate`] and [`CloudKey::evaluate_column`], which make the place of their result, and by threads.
 //! * drawn and owned: [`SecretKeys`] and [`OwnedCloudKey`] draw keys, masks and noise from a source that the caller gives.
 //!
 //! ```no_run
@@ -29,6 +30,21 @@
 //!
 //! A ciphertext is a slice of n + 1 words (`u32`, each counting 2^-32 of a turn), the last of which is b.
 //!
+//! The same gate on many pairs is one call, [`CloudKey::column`], or [`CloudKey::column_in_threads`] over several processors and with progress:
+//!
+//! ```no_run
+//! use egl::{CloudKey, Kind, Refusal};
+//!
+//! /// Whether bits are alike, pair by pair; `pairs` has the two ciphertexts of each pair one after another.
+//! fn alike(key: CloudKey<'_>, pairs: &[u32], threads: usize) -> Result<Vec<u32>, Refusal> {
+//!     let one = key.lengths().ciphertext;
+//!     let count = pairs.len() / (2 * one);
+//!     let mut out = vec![0; count * one];
+//!     key.column_in_threads(Kind::Xnor, count, pairs, &mut out, threads, |p| eprintln!("{} of {}", p.done, p.total))?;
+//!     Ok(out)
+//! }
+//! ```
+//!
 //! Whoever holds the secret keys can have a circuit run with its drift, how far each wire's phase is from what it carries: [`Circuit::evaluate_drift`], or
 //! [`DriftRun`] gate by gate with the margin that is left. A run that is told inside has the right outputs; that is proved, for any keys and noise.
 //!
@@ -41,6 +57,7 @@
 mod builder;
 mod circuit;
 mod cloud;
+mod column;
 mod drift;
 mod drift_run;
 mod error;

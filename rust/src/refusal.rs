@@ -33,9 +33,9 @@ pub enum Refusal {
         /// The first byte of the field at fault.
         place: u32,
     },
-    /// 9: a gate of a circuit.
+    /// 9: a gate of a circuit, or a column's kind that is not 3 to 12.
     CircuitGate {
-        /// The first byte of the field at fault.
+        /// The first byte of the field at fault; 0, where no gate stands, for a column's kind.
         place: u32,
     },
     /// 10: an output of a circuit.
@@ -91,7 +91,7 @@ impl Refusal {
         }
     }
 
-    /// The place that goes with it: a byte of the circuit for 6 to 10, 0 for 1 to 5.
+    /// The place that goes with it: a byte of the circuit for 6 to 10, 0 for 1 to 5 and for a column's kind.
     pub fn place(self) -> u32 {
         match self {
             Refusal::Parameter | Refusal::Length | Refusal::Index | Refusal::SecretKeyWord | Refusal::Modulus => 0,
@@ -116,6 +116,7 @@ impl fmt::Display for Refusal {
             Refusal::CircuitMark { place } => write!(f, "refused (6): the circuit does not start with its mark, at byte {place}"),
             Refusal::CircuitVersion { place } => write!(f, "refused (7): the circuit's version is not 1, at byte {place}"),
             Refusal::CircuitLength { place } => write!(f, "refused (8): the circuit's length or one of its counts is wrong, at byte {place}"),
+            Refusal::CircuitGate { place: 0 } => f.write_str("refused (9): a column's kind must be 3 to 12, a gate of two inputs"),
             Refusal::CircuitGate { place } => write!(f, "refused (9): a gate of the circuit is wrong, at byte {place}"),
             Refusal::CircuitOutput { place } => write!(f, "refused (10): an output of the circuit is no wire of it, at byte {place}"),
             Refusal::Unknown { number, place } => write!(f, "refused ({number}) at {place}: this wrapper does not know that number"),

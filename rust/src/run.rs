@@ -21,12 +21,12 @@ impl Circuit {
     }
 }
 
-/// How far a run is.
+/// How far a run is, or a column.
 #[derive(Debug, Clone, Copy, PartialEq, Eq, Hash)]
 pub struct Progress {
-    /// Gates that are done.
+    /// Gates that are done; a column has one for each pair.
     pub done: usize,
-    /// Gates of the circuit.
+    /// Gates of the circuit, or pairs of the column.
     pub total: usize,
 }
 

@@ -11,6 +11,7 @@ use Rattle.egl_c.proofs.circuit_c.egl_circuit_work as egl-circuit-work
 use Rattle.egl_c.proofs.circuit_c.egl_circuit_run_plain as egl-circuit-run-plain
 use Rattle.egl_c.proofs.circuit_c.egl_circuit_run_encrypted as egl-circuit-run-encrypted
 use Rattle.egl_c.proofs.circuit_c.egl_circuit_run_gate as egl-circuit-run-gate
+use Rattle.egl_c.proofs.column_c.egl_gate_column as egl-gate-column
 use Rattle.egl_c.proofs.gates_c.egl_gates_nand as egl-gates-nand
 use Rattle.egl_c.proofs.gates_c.egl_gates_or as egl-gates-or
 use Rattle.egl_c.proofs.gates_c.egl_gates_and as egl-gates-and
@@ -63,6 +64,9 @@ egl-circuit-run-encrypted-determined κs a x y v w = said-written-twice 10
 
 pub egl-circuit-run-gate-determined : Determined egl-circuit-run-gate.ended egl-circuit-run-gate.Reads.Learnt
 egl-circuit-run-gate-determined κs a x y v w = said-written 10
+
+pub egl-gate-column-determined : Determined egl-gate-column.ended egl-gate-column.Reads.Learnt
+egl-gate-column-determined κs a x y v w = said-written 11
 
 pub egl-gates-nand-determined : Determined egl-gates-nand.ended egl-gates-nand.Reads.Learnt
 egl-gates-nand-determined κs a x y v w = said-written 10

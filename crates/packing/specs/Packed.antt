@@ -18,4 +18,4 @@ packedTold a value = ifDone (a .number) (packedWith a value) (packed a)
 
 -- The version of the interface: one more with each release in which a function of it is added, taken away or changed.
 abbrev pub interfaceVersion : ℕ
-interfaceVersion = 1
+interfaceVersion = 2

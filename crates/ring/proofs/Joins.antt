@@ -1,10 +1,10 @@
--- Lists of one length joined: a loop that writes them one after another over a list, and the part of the whole that each is.
+-- Lists of one length joined: a loop that writes them one after another over a list, and the part of the whole that each is; and lists that are alike, or joined in two runs.
 -- Inductions on the number of lists; the lengths place each part.
 -- Assumes nothing.
 use mathlib.Core.Path.{_≡_, refl, sym, ap, ap₂, _∙_}
 use mathlib.Core.List.{List, [], _∷_, _++_, append-assoc, append-nil}
 use Prim.Native.Nat.{ℕ, zero, suc, _+_, _*_, _-_, _≤_, _<_}
-use native.Mathlib.Nat.{mul-le-mul-right, zero-mul, suc-mul}
+use native.Mathlib.Nat.{add-zero, add-suc, mul-le-mul-right, zero-mul, suc-mul}
 use native.Mathlib.Numerals.{add-one}
 use native.Mathlib.Decide.{decLt}
 use native.Mathlib.Omega.{arith}
@@ -40,6 +40,21 @@ module _ (m : ℕ) (f : ℕ → List ℕ) where
       go ih (no k) =
           let e : r ≡ n = omega arith in
           rw (e, drop-at (joined n f) (f n) (n * m) before) (take-all m (f n) (let q = h n (omega arith) in omega arith))
+
+-- lists that are alike are alike when joined
+pub joined-alike : (n : ℕ) (f g : ℕ → List ℕ) → ((r : ℕ) → r < n → f r ≡ g r) → joined n f ≡ joined n g
+unfolding joined
+joined-alike zero f g h = refl
+joined-alike (suc n) f g h = ap₂ (λ (x y : List ℕ). x ++ y) (joined-alike n f g (λ r l. h r (omega arith))) (h n (omega arith))
+
+-- the first k lists, then the other m
+pub joined-split : (k m : ℕ) (f : ℕ → List ℕ) → joined (k + m) f ≡ joined k f ++ joined m (λ r. f (k + r))
+unfolding joined
+joined-split k zero f = ap (λ (n : ℕ). joined n f) (add-zero k) ∙ sym (append-nil (joined k f))
+joined-split k (suc m) f =
+    ap (λ (n : ℕ). joined n f) (add-suc k m)
+    ∙ ap (λ (x : List ℕ). x ++ f (k + m)) (joined-split k m f)
+    ∙ append-assoc (joined k f) (joined m (λ r. f (k + r))) (f (k + m))
 
 -- ---- a loop that writes f 0, f 1, .. over the list o
 

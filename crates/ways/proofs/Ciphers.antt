@@ -9,7 +9,7 @@ use native.Mathlib.Omega.{arith}
 use borrow.Author.Tests.{leb-true, leb-false, le-leb, lt-leb}
 use lib.Dec.{leb}
 use lib.ListN.{length, take, drop, length-drop, drop-of-length-le}
-use lib.Seq.{length-take-le, drop-at, drop-append-le, take-append-le, take-all}
+use lib.Seq.{length-take-le, drop-at, drop-append-le, drop-append-add, take-append-le, take-all}
 use Rattle.ring.specs.Lists.{part}
 use Rattle.params.specs.declared.Params.{Params}
 use Rattle.params.specs.Ranges.{paramsNumber}
@@ -60,6 +60,13 @@ pub cipher-next : (p : Params) (front row : List ℕ) (w : ℕ) → length front
 unfolding cipherAt part
 cipher-next p front row w l r = ap (take (p .n + 1)) (drop-at front row (w * (p .n + 1)) l) ∙ take-all (p .n + 1) row (omega arith)
 
+-- one behind a front of c ciphertexts
+pub cipher-behind : (p : Params) (front back : List ℕ) (c w : ℕ) → length front ≡ c * (p .n + 1) → cipherAt p (front ++ back) (c + w) ≡ cipherAt p back w
+unfolding cipherAt part
+cipher-behind p front back c w l =
+    let e : (c + w) * (p .n + 1) ≡ length front + w * (p .n + 1) = omega (arith, l) in
+    ap (take (p .n + 1)) (ap (λ (n : ℕ). drop n (front ++ back)) e ∙ drop-append-add front back (w * (p .n + 1)))
+
 -- ---- what there is of a ciphertext, as the code cuts it
 
 -- the less of two is at most each
@@ -87,13 +94,12 @@ pub place-is : (w m len : ℕ) → 0 < m → w ≤ len / m → w * m ≡ lesser 
 unfolding lesser
 place-is w m len z h = rw (le-leb (w * m) len (place-in w m len z h))
 
+pub place-beyond : (w m len : ℕ) → 0 < m → len / m < w → len < w * m
+place-beyond w m len z h = let a = mul-le-mul-right m h in let d = div-add-mod len m in let r = mod-lt len z in omega (arith, a, d, r)
+
 pub place-past : (w m len : ℕ) → 0 < m → len / m < w → len ≡ lesser (w * m) len
 unfolding lesser
-place-past w m len z h =
-    let a = mul-le-mul-right m h in
-    let d = div-add-mod len m in
-    let r = mod-lt len z in
-    rw (lt-leb (w * m) len (omega (arith, a, d, r)))
+place-past w m len z h = rw (lt-leb (w * m) len (place-beyond w m len z h))
 
 -- cutting at the end of the list takes nothing away
 drop-lesser : (s : ℕ) (l : List ℕ) → drop (lesser s (length l)) l ≡ drop s l

@@ -65,29 +65,30 @@ macro_rules! c_function {
                 fn $f($(_: $ty),*) -> u64;
             }
             #[allow(unused_mut, unused_variables)]
-            let mut $next = args.iter_mut();
+            let mut $next = crate::lent::Call::of(args);
             $($let)*
-            crate::ffi::noted(stringify!($f), unsafe { $f($($arg),*) })
+            let answer = unsafe { $f($($arg),*) };
+            crate::ffi::noted(stringify!($f), $next.back(answer))
         }
     };
     (@ $f:ident $next:ident ($($first:ident: $of:ty)?) [$($ty:ty,)*] [$($let:tt)*] [$($arg:expr,)*] u8 $($kind:ident)*) => {
-        crate::ffi::c_function!(@ $f $next ($($first: $of)?) [$($ty,)* u8,] [$($let)* let x = $next.next().unwrap().num() as u8;] [$($arg,)* x,] $($kind)*);
+        crate::ffi::c_function!(@ $f $next ($($first: $of)?) [$($ty,)* u8,] [$($let)* let x = $next.next().num() as u8;] [$($arg,)* x,] $($kind)*);
     };
     (@ $f:ident $next:ident ($($first:ident: $of:ty)?) [$($ty:ty,)*] [$($let:tt)*] [$($arg:expr,)*] u32 $($kind:ident)*) => {
-        crate::ffi::c_function!(@ $f $next ($($first: $of)?) [$($ty,)* u32,] [$($let)* let x = $next.next().unwrap().num() as u32;] [$($arg,)* x,] $($kind)*);
+        crate::ffi::c_function!(@ $f $next ($($first: $of)?) [$($ty,)* u32,] [$($let)* let x = $next.next().num() as u32;] [$($arg,)* x,] $($kind)*);
     };
     (@ $f:ident $next:ident ($($first:ident: $of:ty)?) [$($ty:ty,)*] [$($let:tt)*] [$($arg:expr,)*] u64 $($kind:ident)*) => {
-        crate::ffi::c_function!(@ $f $next ($($first: $of)?) [$($ty,)* u64,] [$($let)* let x = $next.next().unwrap().num();] [$($arg,)* x,] $($kind)*);
+        crate::ffi::c_function!(@ $f $next ($($first: $of)?) [$($ty,)* u64,] [$($let)* let x = $next.next().num();] [$($arg,)* x,] $($kind)*);
     };
     (@ $f:ident $next:ident ($($first:ident: $of:ty)?) [$($ty:ty,)*] [$($let:tt)*] [$($arg:expr,)*] usize $($kind:ident)*) => {
-        crate::ffi::c_function!(@ $f $next ($($first: $of)?) [$($ty,)* usize,] [$($let)* let x = $next.next().unwrap().num() as usize;] [$($arg,)* x,] $($kind)*);
+        crate::ffi::c_function!(@ $f $next ($($first: $of)?) [$($ty,)* usize,] [$($let)* let x = $next.next().num() as usize;] [$($arg,)* x,] $($kind)*);
     };
     (@ $f:ident $next:ident ($($first:ident: $of:ty)?) [$($ty:ty,)*] [$($let:tt)*] [$($arg:expr,)*] f64 $($kind:ident)*) => {
-        crate::ffi::c_function!(@ $f $next ($($first: $of)?) [$($ty,)* f64,] [$($let)* let x = crate::ffi::turn($next.next().unwrap());] [$($arg,)* x,] $($kind)*);
+        crate::ffi::c_function!(@ $f $next ($($first: $of)?) [$($ty,)* f64,] [$($let)* let x = crate::ffi::turn($next.next());] [$($arg,)* x,] $($kind)*);
     };
     (@ $f:ident $next:ident ($($first:ident: $of:ty)?) [$($ty:ty,)*] [$($let:tt)*] [$($arg:expr,)*] $slice:ident $($kind:ident)*) => {
         crate::ffi::c_function!(@ $f $next ($($first: $of)?) [$($ty,)* *mut crate::ffi::$slice, usize,]
-            [$($let)* let (x, len) = crate::ffi::slice($next.next().unwrap());] [$($arg,)* x.cast(), len,] $($kind)*);
+            [$($let)* let (x, len) = $next.slice(stringify!($slice).ends_with("_out"));] [$($arg,)* x.cast(), len,] $($kind)*);
     };
 }
 
@@ -116,24 +117,16 @@ pub fn turn(arg: &Arg) -> f64 {
     }
 }
 
-pub fn slice(arg: &mut Arg) -> (*mut u8, usize) {
-    match arg {
-        Arg::Words(v) => (v.as_mut_ptr().cast(), v.len()),
-        Arg::Bytes(v) => (v.as_mut_ptr(), v.len()),
-        Arg::Longs(v) => (v.as_mut_ptr().cast(), v.len()),
-        Arg::Doubles(v) => (v.as_mut_ptr().cast(), v.len()),
-        _ => panic!("not a slice"),
-    }
-}
-
 #[cfg(group_circuit)]
 pub mod circuit;
+#[cfg(group_column)]
+pub mod column;
 #[cfg(group_drift)]
 pub mod drift;
-// drift runs are compared with encrypted runs, and those with single gates
+// drift runs are compared with encrypted runs, and those and columns with single gates
 #[cfg(any(group_encrypted, group_drift))]
 pub mod encrypted;
-#[cfg(any(group_gates, group_encrypted, group_drift))]
+#[cfg(any(group_gates, group_column, group_encrypted, group_drift))]
 pub mod gates;
 #[cfg(group_key)]
 pub mod key;

@@ -12,7 +12,7 @@ fn compare(tally: &mut Tally, source: &mut Source, bytes: &[u8]) {
     let circuit = read(bytes);
     let want = circuit.as_ref().err().map_or(0, |(number, place)| number | (*place as u64) << 32);
     let lent = Arg::Bytes(bytes.to_vec());
-    tally.refusals += (want != 0) as u64;
+    tally.refused(want as u32);
     let shown = || bytes.iter().take(60).map(|b| format!("{b:02x}")).collect::<String>();
 
     let got = egl_circuit_check(&mut [lent.clone()]);

@@ -5,11 +5,11 @@ use crate::case::{Arg, Routine, Set, Slot};
 use crate::circuits::{plain_wires, read, run_plain, valid, Circuit, KINDS};
 use crate::compare::{self, Tally};
 use crate::draw;
-use crate::exact;
 use crate::exact_run::{self, cipher, outputs};
 use crate::ffi::encrypted::*;
 use crate::ffi::gates::{egl_gates_constant, egl_gates_not};
 use crate::honest::Keys;
+use crate::junk;
 use crate::sizes::Sizes;
 use crate::source::Source;
 use super::gates::{self, BOOTSTRAPPING, SWITCHING};
@@ -73,7 +73,7 @@ pub fn run(set: &Set, tally: &mut Tally) {
     };
     let mut source = Source::new(crate::SEED, &format!("encrypted {}", set.name));
     for i in 0..junk {
-        let keys = junk_keys(&mut source, set.p);
+        let keys = junk::keys(&mut source, set.p);
         // every fourth has no gate that looks at a key
         let bytes = draw::small_circuit(&mut source, if i % 4 == 3 { 3 } else { KINDS });
         with_junk(tally, &mut source, &keys, &bytes);
@@ -81,7 +81,7 @@ pub fn run(set: &Set, tally: &mut Tally) {
     if (n, nbit) == (1, 1) {
         // the largest circuit, and one of inputs alone, where a gate is cheapest
         for gates in [1024, 0] {
-            let keys = junk_keys(&mut source, set.p);
+            let keys = junk::keys(&mut source, set.p);
             let bytes = valid(&mut source, KINDS, 256, gates, 64);
             with_junk(tally, &mut source, &keys, &bytes);
         }
@@ -89,12 +89,6 @@ pub fn run(set: &Set, tally: &mut Tally) {
     if nbit >= 5 && (n as u64) << (30 - nbit) < 1 << 29 && bgbit * l >= 12 && basebit * t >= 12 {
         with_honest(tally, &mut source, &Keys::new(&mut Source::new(crate::SEED, set.name), set.p), honest);
     }
-}
-
-fn junk_keys(source: &mut Source, p: [u32; 6]) -> Keys {
-    let s = Sizes::of(&p);
-    let (switching, bootstrapping) = (source.words(s.switching()), source.words(s.bootstrapping()));
-    Keys { p, key_lv0: Vec::new(), key_lv1: Vec::new(), switching, bootstrapping }
 }
 
 fn with_junk(tally: &mut Tally, source: &mut Source, keys: &Keys, bytes: &[u8]) {
@@ -152,7 +146,7 @@ fn compare(tally: &mut Tally, source: &mut Source, keys: &Keys, bytes: &[u8], in
     single_gates(tally, keys, &circuit, &model.wires);
     gate_by_gate(tally, source, keys, bytes, &circuit, &model.wires);
 
-    let other = elsewhere(source, keys, &model.samples);
+    let other = junk::elsewhere(source, keys, &model.samples);
     let again = library_run(source, &other, bytes, ins);
     tally.words += (wires.len() + out.len()) as u64;
     tally.same(again == (0, model.wires, meant), || format!("run at {p:?}: other words where key rows differ that no gate uses"));
@@ -199,19 +193,4 @@ fn gate_by_gate(tally: &mut Tally, source: &mut Source, keys: &Keys, bytes: &[u8
         tally.words += want.len() as u64;
         tally.same(answer == 0 && args[4].w() == want, || format!("gate by gate at {p:?}: gate {g} of {gates} differs (answer {answer:#x})"));
     }
-}
-
-/// Keys with other words in every row that no gate of a run uses: the switching key's rows that no field chose, and the whole
-/// bootstrapping key where nothing was rotated.
-fn elsewhere(source: &mut Source, keys: &Keys, samples: &[Vec<u32>]) -> Keys {
-    let (p, words) = (keys.p, keys.p[0] as usize + 1);
-    let mut used = vec![false; keys.switching.len() / words];
-    samples.iter().flat_map(|s| exact::chosen(&p, s)).for_each(|row| used[row] = true);
-    let mut junk = |x: &u32| x.wrapping_add(1 + (source.next() >> 40) as u32);
-    let mut switching = keys.switching.clone();
-    for (row, _) in switching.chunks_mut(words).zip(used).filter(|(_, used)| !used) {
-        row.iter_mut().for_each(|x| *x = junk(x));
-    }
-    let bootstrapping = if samples.is_empty() { keys.bootstrapping.iter().map(junk).collect() } else { keys.bootstrapping.clone() };
-    Keys { p, key_lv0: Vec::new(), key_lv1: Vec::new(), switching, bootstrapping }
 }

@@ -2,14 +2,18 @@
 
 #[cfg(group_circuit)]
 pub mod circuit;
+#[cfg(group_column)]
+pub mod column;
+#[cfg(group_column)]
+mod column_lengths;
 #[cfg(group_drift)]
 pub mod drift;
 #[cfg(group_drift)]
 mod drift_circuits;
 #[cfg(group_encrypted)]
 pub mod encrypted;
-// encrypted runs are compared with single gates, and drift runs share their slots
-#[cfg(any(group_gates, group_encrypted, group_drift))]
+// columns and encrypted runs are compared with single gates, and drift runs share their slots
+#[cfg(any(group_gates, group_column, group_encrypted, group_drift))]
 pub mod gates;
 #[cfg(group_key)]
 pub mod key;
@@ -66,6 +70,8 @@ pub fn groups() -> Vec<Group> {
         Group { name: "trgsw", run: Run::EachSet(trgsw::run), routines: &trgsw::ROUTINES },
         #[cfg(group_gates)]
         Group { name: "gates", run: Run::EachSet(gates::run), routines: &gates::ROUTINES },
+        #[cfg(group_column)]
+        Group { name: "column", run: Run::EachSet(column::run), routines: &column::ROUTINES },
         #[cfg(group_circuit)]
         Group { name: "circuit", run: Run::Once(circuit::run), routines: &[] },
         #[cfg(group_encrypted)]

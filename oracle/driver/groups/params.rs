@@ -51,7 +51,7 @@ pub fn run(sets: &[Set], tally: &mut Tally) {
 fn compare(tally: &mut Tally, list: &[[u32; 6]]) {
     for (p, answer) in list.iter().zip(check_all(list)) {
         let number = !in_range(p) as u64;
-        tally.refusals += number;
+        tally.refused(number as u32);
         tally.same(answer == number, || format!("params_check {p:?}: {answer}, wanted {number}"));
     }
 }

@@ -45,7 +45,7 @@ fn slice(tally: &mut Tally, original: Reference, source: &mut Source, len: usize
         Some(o) => o.f64_to_torus_vec(&d),
         None => d.iter().map(|x| exact::torus(x.to_bits())).collect(),
     };
-    tally.refusals += (number != 0) as u64;
+    tally.refused(number as u32);
     tally.words += out_len as u64;
     tally.same(answer == number && args[1].w() == want, || format!("f64_to_torus_vec {len} {out_len}: answer {answer}"));
 }

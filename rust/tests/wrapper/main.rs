@@ -2,6 +2,7 @@
 
 mod builder;
 mod circuits;
+mod column;
 mod drift;
 mod encrypted_runs;
 mod gates;
