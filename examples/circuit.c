@@ -9,7 +9,7 @@
 
 enum { n = 20, nbit = 7, bgbit = 7, l = 3, basebit = 3, t = 5 };
 enum { N = 1 << nbit, base = 1 << basebit, inputs = 3, gates = 3, outputs = 2, ciphertext = n + 1 };
-enum { drawing = N * t * (base - 1), ksk_len = N * t * base * ciphertext, bsk_masks = n * 2 * l * N, bsk_len = 2 * bsk_masks };
+enum { ksk_len = N * t * base * ciphertext, bsk_len = n * 4 * l * N };
 #define P n, nbit, bgbit, l, basebit, t
 
 /* Wires 0, 1, 2 are a, b and the carry c; 3 = a xor b, 4 = (a xor b) xor c is the sum, 5 = c where a and b differ, else a, is the next carry. */
@@ -22,18 +22,10 @@ static const uint8_t adder[] = {
 };
 
 static uint32_t key0[n], key1[N], ksk[ksk_len], bsk[bsk_len];
-static uint32_t masks[drawing * n > bsk_masks ? drawing * n : bsk_masks], noise[drawing > bsk_masks ? drawing : bsk_masks];
 static uint32_t ins[inputs * ciphertext], wires[(inputs + gates) * ciphertext], outs[outputs * ciphertext];
 
 int main(void) {
-    draw_key(key0, n);
-    draw_key(key1, N);
-    draw(masks, (size_t)drawing * n);
-    draw_noise(noise, drawing);
-    done("switching key", egl_key_gen_key_switching_key(P, key0, n, key1, N, masks, (size_t)drawing * n, noise, drawing, ksk, ksk_len));
-    draw(masks, bsk_masks);
-    draw_noise(noise, bsk_masks);
-    done("bootstrapping key", egl_trgsw_gen_bootstrapping_key(P, key0, n, key1, N, masks, bsk_masks, noise, bsk_masks, bsk, bsk_len));
+    draw_keys(P, key0, key1, ksk, bsk);
 
     int wrong = 0;
     printf("work %u\na b c  sum carry\n", EGL_VALUE(done("work", egl_circuit_work(adder, sizeof adder))));
@@ -41,9 +33,7 @@ int main(void) {
         uint8_t bits[inputs], meant[outputs];
         for (unsigned i = 0; i < inputs; i++) {
             bits[i] = row >> i & 1;
-            draw(masks, n);
-            draw_noise(noise, 1);
-            done("encryption", egl_tlwe_encrypt_bit_lv0(P, bits[i], masks, n, noise[0], key0, n, ins + i * ciphertext, ciphertext));
+            encrypt(P, bits[i], key0, ins + i * ciphertext);
         }
         done("plain run", egl_circuit_run_plain(adder, sizeof adder, bits, inputs, meant, outputs));
         done("encrypted run", egl_circuit_run_encrypted(P, ksk, ksk_len, bsk, bsk_len, adder, sizeof adder, ins, inputs * ciphertext, wires, (inputs + gates) * ciphertext, outs, outputs * ciphertext));

@@ -9,7 +9,7 @@
 
 enum { n = 20, nbit = 7, bgbit = 7, l = 3, basebit = 3, t = 5 };
 enum { N = 1 << nbit, base = 1 << basebit, ciphertext = n + 1, count = 4 };
-enum { drawing = N * t * (base - 1), ksk_len = N * t * base * ciphertext, bsk_masks = n * 2 * l * N, bsk_len = 2 * bsk_masks };
+enum { ksk_len = N * t * base * ciphertext, bsk_len = n * 4 * l * N };
 #define P n, nbit, bgbit, l, basebit, t
 
 /* bit i of `meant` is the result for the pair whose bits i counts, a lowest */
@@ -19,7 +19,6 @@ static const struct { const char *name; size_t kind; unsigned meant; } kinds[] =
 };
 
 static uint32_t key0[n], key1[N], ksk[ksk_len], bsk[bsk_len];
-static uint32_t masks[drawing * n > bsk_masks ? drawing * n : bsk_masks], noise[drawing > bsk_masks ? drawing : bsk_masks];
 static uint32_t pairs[count * 2 * ciphertext], out[count * ciphertext], parts[count * ciphertext];
 
 /* The pairs from one on, so many, into their places in `to`. */
@@ -34,20 +33,9 @@ static int refused(const char *what, egl_answer got, uint32_t number) {
 }
 
 int main(void) {
-    draw_key(key0, n);
-    draw_key(key1, N);
-    draw(masks, (size_t)drawing * n);
-    draw_noise(noise, drawing);
-    done("switching key", egl_key_gen_key_switching_key(P, key0, n, key1, N, masks, (size_t)drawing * n, noise, drawing, ksk, ksk_len));
-    draw(masks, bsk_masks);
-    draw_noise(noise, bsk_masks);
-    done("bootstrapping key", egl_trgsw_gen_bootstrapping_key(P, key0, n, key1, N, masks, bsk_masks, noise, bsk_masks, bsk, bsk_len));
-    for (unsigned i = 0; i < 2 * count; i++) {
-        draw(masks, n);
-        draw_noise(noise, 1);
-        /* pair i / 2, its a and then its b */
-        done("encryption", egl_tlwe_encrypt_bit_lv0(P, i / 2 >> i % 2 & 1, masks, n, noise[0], key0, n, pairs + i * ciphertext, ciphertext));
-    }
+    draw_keys(P, key0, key1, ksk, bsk);
+    /* pair i / 2, its a and then its b */
+    for (unsigned i = 0; i < 2 * count; i++) encrypt(P, i / 2 >> i % 2 & 1, key0, pairs + i * ciphertext);
 
     int wrong = 0;
     printf("%-12s 00 10 01 11\n", "a b");

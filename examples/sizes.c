@@ -19,32 +19,6 @@ enum { n = 20, N = 128 };
 static uint32_t key0[n], key1[N];
 static uint32_t *ksk, *bsk;
 
-/* So many elements, and never none: a buffer of length 0 has an address here too. */
-static void *room(size_t count, size_t size) {
-    void *p = calloc(count + 1, size);
-    if (!p) exit(3);
-    return p;
-}
-
-static void draw_keys(void) {
-    draw_key(key0, n);
-    draw_key(key1, N);
-    ksk = room(EGL_SWITCHING_WORDS(P), sizeof *ksk);
-    bsk = room(EGL_BOOTSTRAPPING_WORDS(P), sizeof *bsk);
-    uint32_t *masks = room(EGL_SWITCHING_MASKS(P), sizeof *masks), *noise = room(EGL_SWITCHING_NOISE(P), sizeof *noise);
-    draw(masks, EGL_SWITCHING_MASKS(P));
-    draw_noise(noise, EGL_SWITCHING_NOISE(P));
-    done("switching key", egl_key_gen_key_switching_key(P, key0, n, key1, N, masks, EGL_SWITCHING_MASKS(P), noise, EGL_SWITCHING_NOISE(P), ksk, EGL_SWITCHING_WORDS(P)));
-    free(masks);
-    free(noise);
-    masks = room(EGL_BOOTSTRAPPING_MASKS(P), sizeof *masks), noise = room(EGL_BOOTSTRAPPING_MASKS(P), sizeof *noise);
-    draw(masks, EGL_BOOTSTRAPPING_MASKS(P));
-    draw_noise(noise, EGL_BOOTSTRAPPING_MASKS(P));
-    done("bootstrapping key", egl_trgsw_gen_bootstrapping_key(P, key0, n, key1, N, masks, EGL_BOOTSTRAPPING_MASKS(P), noise, EGL_BOOTSTRAPPING_MASKS(P), bsk, EGL_BOOTSTRAPPING_WORDS(P)));
-    free(masks);
-    free(noise);
-}
-
 /* The file's bytes: one more than the longest circuit has is enough to tell that there are too many. */
 static size_t read_file(const char *name, uint8_t bytes[EGL_CIRCUIT_BYTES + 1]) {
     FILE *file = fopen(name, "rb");
@@ -61,11 +35,9 @@ static size_t read_file(const char *name, uint8_t bytes[EGL_CIRCUIT_BYTES + 1]) 
 static int run(const uint8_t *bytes, size_t len, const uint32_t *counts, const uint8_t *bits) {
     size_t inputs = counts[1], wires = (size_t)counts[1] + counts[2], outputs = counts[3], c = EGL_CIPHERTEXT_WORDS(P);
     uint8_t *meant = room(outputs, 1);
-    uint32_t *ins = room(inputs * c, 4), *all = room(wires * c, 4), *outs = room(outputs * c, 4), masks[n], noise;
+    uint32_t *ins = room(inputs * c, 4), *all = room(wires * c, 4), *outs = room(outputs * c, 4);
     for (size_t i = 0; i < inputs; i++) {
-        draw(masks, n);
-        draw_noise(&noise, 1);
-        done("encryption", egl_tlwe_encrypt_bit_lv0(P, bits[i], masks, n, noise, key0, n, ins + i * c, c));
+        encrypt(P, bits[i], key0, ins + i * c);
         printf("%u", bits[i]);
     }
     done("plain run", egl_circuit_run_plain(bytes, len, bits, inputs, meant, outputs));
@@ -141,7 +113,9 @@ int main(int argc, char **argv) {
         printf("the archive has version %u of the interface, the header %u\n", egl_version(), EGL_VERSION);
         return 1;
     }
-    draw_keys();
+    ksk = room(EGL_SWITCHING_WORDS(P), sizeof *ksk);
+    bsk = room(EGL_BOOTSTRAPPING_WORDS(P), sizeof *bsk);
+    draw_keys(P, key0, key1, ksk, bsk);
     if (argc > 1) return run_file(argv[1], 0) != 0;
     FILE *file = tmpfile();
     char name[64];
