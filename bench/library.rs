@@ -43,6 +43,11 @@ unsafe extern "C" {
     fn egl_circuit_check(bytes: *const u8, bytes_len: usize) -> u64;
 }
 
+#[cfg(group_bristol)]
+unsafe extern "C" {
+    fn egl_bristol_import(text: *const u8, text_len: usize, out: *mut u8, out_len: usize) -> u64;
+}
+
 macro_rules! done {
     ($p:ident, $f:ident($($a:expr),*)) => {
         assert_eq!(unsafe { $f($p[0], $p[1], $p[2], $p[3], $p[4], $p[5], $($a),*) }, 0, "the library refused")
@@ -132,4 +137,10 @@ pub fn run_drift(p: &[u32; 6], Lent { keys: [s, k], circuit: c, ins, wires, out 
 #[cfg(group_circuit)]
 pub fn check_circuit(bytes: &[u8]) -> u64 {
     unsafe { egl_circuit_check(bytes.as_ptr(), bytes.len()) }
+}
+
+/// Here too: the length above, or the number and its place.
+#[cfg(group_bristol)]
+pub fn import_bristol(text: &[u8], out: &mut [u8]) -> u64 {
+    unsafe { egl_bristol_import(text.as_ptr(), text.len(), out.as_mut_ptr(), out.len()) }
 }

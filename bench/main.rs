@@ -1,5 +1,7 @@
 //! The proved library beside plain Rust and a transform in doubles, as ratios in one run.
 
+#[cfg(group_bristol)]
+mod bristol;
 #[cfg(group_column)]
 mod column;
 mod library;
@@ -219,6 +221,10 @@ fn main() {
     #[cfg(group_circuit)]
     if wanted("circuit") {
         circuits();
+    }
+    #[cfg(group_bristol)]
+    if wanted("bristol") {
+        bristol::run();
     }
     #[cfg(group_drift)]
     if wanted("drift") {

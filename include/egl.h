@@ -9,18 +9,19 @@
  * one call writes to is lent to another at the same time. Keys are never written to, so one key serves all threads.
  *
  * Answers. The answer is one number of 64 bits: the refusal in its low half, 0 when the work is done, and the place in its high half (only refusals
- * 6 to 10, those of circuits, have one; a column's kind, which gets 9 too, has place 0). A function that gives a number beside its answer, as a decryption,
- * puts it into the high half instead (EGL_VALUE); it is 0 beside a refusal, but that those of egl_circuit_work, egl_drift_run and egl_drift_gate have their
- * place there. Checks go in the order of the numbers, but that a circuit under 11 bytes gets 8 before 6 and 7, and the lengths that depend on a circuit (2)
- * come after it:
+ * 6 to 12, those of circuits and texts, have one; a column's kind, which gets 9 too, has place 0). A function that gives a number beside its answer, as a
+ * decryption, puts it into the high half instead (EGL_VALUE); it is 0 beside a refusal, but that those of egl_circuit_work, egl_bristol_import,
+ * egl_bristol_export, egl_drift_run and egl_drift_gate have their place there. Checks go in the order of the numbers, but that a circuit under 11 bytes gets 8
+ * before 6 and 7, and the lengths that depend on a circuit or a text (2) come after it:
  *   1  a parameter is outside its range
- *   2  a buffer has not exactly its stated length
+ *   2  a buffer has not exactly its stated length; for egl_bristol_import and egl_bristol_export: out is shorter than the result
  *   3  rotation amount above 2N, extraction index N or more, or a key row's index outside its range
  *   4  a secret key word is neither 0 nor 1
  *   5  message modulus not 2, 4, 8, 16, 32 or 64
  *   6  circuit: wrong mark      7  circuit: version not 1      8  circuit: length or count
  *   9  circuit: a gate; column: a kind that is not 3 to 12
  *  10  circuit: an output
+ *  11  text: not in the Bristol Fashion form, anywhere in it      12  text: in the form, but with a MAND or past a limit of circuits
  *
  * Parameters: n 1..1,100; nbit 1..10, N = 2^nbit; bgbit 1..24, l at least 1, l * bgbit at most 32; basebit 1..6, t at least 1,
  * basebit * t at most 30. A word (uint32_t) counts 2^-32 of a turn.
@@ -39,7 +40,7 @@ extern "C" {
 
 /* The interface that this header describes. One more with each release in which a function is added, taken away or changed: where egl_version() gives another number, header and
  * archive do not belong together. */
-#define EGL_VERSION 2
+#define EGL_VERSION 3
 
 /* The interface that the archive has. */
 uint32_t egl_version(void);
@@ -340,6 +341,42 @@ egl_answer egl_circuit_run_encrypted(EGL_PARAMS, const uint32_t *ksk, size_t ksk
  * wires from the start; all gates in order make the run. Where the circuit has no gate g nothing is written and the answer is 0. Refusals 1, 2 for the
  * keys, 6 to 10 with their place, 2 for wires. */
 egl_answer egl_circuit_run_gate(EGL_PARAMS, const uint32_t *ksk, size_t ksk_len, const uint32_t *bsk, size_t bsk_len, const uint8_t *bytes, size_t bytes_len, size_t g, uint32_t *wires, size_t wires_len);
+
+/* ---- circuits as text (Bristol Fashion) ----
+ *
+ * A text's tokens are the runs of bytes other than space, tab, CR and LF; line ends mean nothing more. A number is decimal digits, leading zeros allowed, below
+ * 2^32. A text is, token after token:
+ *   G and W             the number of gates and of wires
+ *   p and p sizes       the number of input values and how many wires each has: I wires in all, which may be 0
+ *   q and q sizes       the number of output values and how many wires each has: O wires in all
+ *   G gates             how many operands, how many results, the operands, the results, the name
+ * and nothing more. Wires are 0 to W - 1. The first I are the inputs; each other wire is the result of exactly one gate, in any numbering, and no gate reads a
+ * wire before it is set. The last O are the outputs. Gates, with operands a, b and the result c:
+ *   2 1 a b c XOR       c is a xor b                   2 1 a b c AND       c is a and b
+ *   1 1 a c INV         c is not a                     1 1 a c EQW         c is a
+ *   1 1 0 c EQ          c is false                     1 1 1 c EQ          c is true: 0 and 1 are no wires there
+ *   MAND                k ANDs at once: 2k operands, k and then their partners, and k results. It is in the form, but no circuit is made of it. */
+
+/* The bytes of the longest text that an export writes. */
+#define EGL_BRISTOL_BYTES 71830
+
+/* A text's circuit as bytes, into the front of out. The value is its length, at most EGL_CIRCUIT_BYTES; the bytes of out behind it stay as they were. The inputs
+ * are the text's, in order. XOR becomes a gate of kind 7, AND 3, INV 2, EQ 0 or 1, in the text's order; EQW makes no gate, for its result is its operand's
+ * wire. The outputs are the text's last O wires, in order. The circuit means what the text means. A text may have any length, but bound the
+ * length of those that come from strangers: with more than 24,576 wires, which takes thousands of EQW, each of the circuit's operands and outputs costs a way
+ * through the text (seconds for 0.6 MB, minutes for 6 MB), and with more than 393,216 wires the time grows with the square of the text's length.
+ *
+ * Refusals 11; 12 for a MAND, for more than 256 inputs, for no output or more than 64, for more than 1,024 gates that are not EQW; then 2. An 11 anywhere in the
+ * text comes before any 12. The place is the first byte of the earliest token that shows the fault, or the text's length where it ends too early; 2^32 - 1 stands
+ * for every place from there on. */
+egl_answer egl_bristol_import(const uint8_t *text, size_t text_len, uint8_t *out, size_t out_len);
+
+/* A circuit's text, into the front of out. The value is its length, at most EGL_BRISTOL_BYTES; the bytes of out behind it stay as they were. It has a line with G
+ * and W, one with `1` and I, one with `1` and O, an empty line, and a line for each gate; one space stands between tokens, and LF ends each line. A gate of kind
+ * 0, 1, 2, 3 or 7 becomes one gate of the text, 5, 8, 9 or 10 two, 4, 6, 11, 12 or 13 three, all of XOR, AND, INV and EQ, in the circuit's order, and each sets
+ * the next wire; then an EQW sets each output. The text means what the circuit means. An import takes it back, with the same meaning and other gates, unless they
+ * are more than 1,024 (12). Refusals 6 to 10 with their place, then 2. */
+egl_answer egl_bristol_export(const uint8_t *bytes, size_t bytes_len, uint8_t *out, size_t out_len);
 
 /* ---- drift, for whoever holds both secret keys: key is the level-0 key (n words), z the level-1 key (N words), all words 0 or 1 ----
  *

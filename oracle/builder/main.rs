@@ -17,12 +17,14 @@ use std::sync::atomic::{AtomicUsize, Ordering};
 use std::sync::Mutex;
 
 /// The groups of comparisons, in port order.
-const GROUPS: [&str; 13] =
-    ["params", "utils", "product", "tlwe", "trlwe", "key", "rotation", "trgsw", "gates", "column", "circuit", "encrypted", "drift"];
+const GROUPS: [&str; 14] =
+    ["params", "utils", "product", "tlwe", "trlwe", "key", "rotation", "trgsw", "gates", "column", "circuit", "bristol", "encrypted", "drift"];
 
-/// The files in ffi/ with the functions that a group needs: columns and encrypted runs are compared with single gates, drift runs with encrypted ones.
+/// The files in ffi/ with the functions that a group needs: columns and encrypted runs are compared with single gates, drift runs with encrypted ones;
+/// imported and exported circuits are run on plain bits.
 fn declarations(group: &str) -> Vec<&str> {
     match group {
+        "bristol" => vec!["circuit", "bristol"],
         "column" => vec!["gates", "column"],
         "encrypted" => vec!["gates", "encrypted"],
         "drift" => vec!["gates", "encrypted", "drift"],

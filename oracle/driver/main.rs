@@ -4,6 +4,10 @@
 
 #[cfg(bridge)]
 mod bridge;
+#[cfg(group_bristol)]
+mod bristol;
+#[cfg(group_bristol)]
+mod bristol_texts;
 mod case;
 mod circuits;
 mod compare;

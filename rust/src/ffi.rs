@@ -48,6 +48,9 @@ extern "C" {
     fn egl_circuit_run_encrypted(n: u32, nbit: u32, bgbit: u32, l: u32, basebit: u32, t: u32, ksk: *const u32, ksk_len: usize, bsk: *const u32, bsk_len: usize, bytes: *const u8, bytes_len: usize, ins: *const u32, ins_len: usize, wires: *mut u32, wires_len: usize, out: *mut u32, out_len: usize) -> u64;
     fn egl_circuit_run_gate(n: u32, nbit: u32, bgbit: u32, l: u32, basebit: u32, t: u32, ksk: *const u32, ksk_len: usize, bsk: *const u32, bsk_len: usize, bytes: *const u8, bytes_len: usize, g: usize, wires: *mut u32, wires_len: usize) -> u64;
 
+    fn egl_bristol_import(text: *const u8, text_len: usize, out: *mut u8, out_len: usize) -> u64;
+    fn egl_bristol_export(bytes: *const u8, bytes_len: usize, out: *mut u8, out_len: usize) -> u64;
+
     fn egl_drift_run(n: u32, nbit: u32, bgbit: u32, l: u32, basebit: u32, t: u32, ksk: *const u32, ksk_len: usize, bsk: *const u32, bsk_len: usize, key: *const u32, key_len: usize, z: *const u32, z_len: usize, bytes: *const u8, bytes_len: usize, ins: *const u32, ins_len: usize, plain: *const u8, plain_len: usize, wires: *mut u32, wires_len: usize, out: *mut u32, out_len: usize, drifts: *mut u32, drifts_len: usize) -> u64;
     fn egl_drift_gate(n: u32, nbit: u32, bgbit: u32, l: u32, basebit: u32, t: u32, ksk: *const u32, ksk_len: usize, bsk: *const u32, bsk_len: usize, key: *const u32, key_len: usize, z: *const u32, z_len: usize, bytes: *const u8, bytes_len: usize, g: usize, wires: *mut u32, wires_len: usize, drifts: *mut u32, drifts_len: usize) -> u64;
     fn egl_fresh_drift(n: u32, nbit: u32, bgbit: u32, l: u32, basebit: u32, t: u32, key: *const u32, key_len: usize, c: *const u32, c_len: usize, bit: u8) -> u64;
@@ -158,4 +161,14 @@ pub(crate) fn circuit_work(bytes: &[u8]) -> u64 {
 pub(crate) fn circuit_run_plain(bytes: &[u8], ins: &[u8], out: &mut [u8]) -> u64 {
     // SAFETY: each pointer and length are those of one slice, and `out` is `&mut`, so the others do not overlap it.
     unsafe { egl_circuit_run_plain(bytes.as_ptr(), bytes.len(), ins.as_ptr(), ins.len(), out.as_mut_ptr(), out.len()) }
+}
+
+pub(crate) fn bristol_import(text: &[u8], out: &mut [u8]) -> u64 {
+    // SAFETY: each pointer and length are those of one slice, and `out` is `&mut`, so the other does not overlap it.
+    unsafe { egl_bristol_import(text.as_ptr(), text.len(), out.as_mut_ptr(), out.len()) }
+}
+
+pub(crate) fn bristol_export(bytes: &[u8], out: &mut [u8]) -> u64 {
+    // SAFETY: each pointer and length are those of one slice, and `out` is `&mut`, so the other does not overlap it.
+    unsafe { egl_bristol_export(bytes.as_ptr(), bytes.len(), out.as_mut_ptr(), out.len()) }
 }

@@ -1,6 +1,6 @@
 //! Safe Rust over `libegl_c.a`, the proved evaluator of encrypted gates.
 //!
-//! The archive does the work and is proved: every call takes any numbers and any slices, does its work or gives one of ten numbered
+//! The archive does the work and is proved: every call takes any numbers and any slices, does its work or gives one of twelve numbered
 //! refusals, and a refused call has written to none of the memory lent to it. This crate turns lengths and pointers into slices, numbers into
 //! [`Refusal`], and adds what the archive leaves to its caller: memory, random numbers and noise. What it adds is ordinary Rust and not
 //! proved: [`Random`], [`Noise`] and the drawing of keys, [`Builder`], the order in which [`Circuit`] and its runner lend slices, and how
@@ -45,6 +45,9 @@
 //! }
 //! ```
 //!
+//! Circuits are built by [`Builder`], taken as bytes, or exchanged with other tools as text in the Bristol Fashion form: [`Circuit::from_bristol`] and
+//! [`Circuit::to_bristol`].
+//!
 //! Whoever holds the secret keys can have a circuit run with its drift, how far each wire's phase is from what it carries: [`Circuit::evaluate_drift`], or
 //! [`DriftRun`] gate by gate with the margin that is left. A run that is told inside has the right outputs; that is proved, for any keys and noise.
 //!
@@ -54,6 +57,7 @@
 #![deny(missing_docs, unsafe_code, unsafe_op_in_unsafe_fn)]
 #![deny(clippy::unwrap_used, clippy::expect_used, clippy::panic, clippy::indexing_slicing, clippy::arithmetic_side_effects)]
 
+mod bristol;
 mod builder;
 mod circuit;
 mod cloud;

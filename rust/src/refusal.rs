@@ -4,7 +4,7 @@ use std::error::Error;
 use std::fmt;
 
 /// Why a call did not do its work. Checks go in the order of the numbers (but that a circuit under 11 bytes gets 8 first, and lengths that depend
-/// on a circuit come after it), and a refused call has written to nothing that was lent to it.
+/// on a circuit or a text come after it), and a refused call has written to nothing that was lent to it.
 #[derive(Debug, Clone, Copy, PartialEq, Eq, Hash)]
 #[non_exhaustive]
 pub enum Refusal {
@@ -43,6 +43,16 @@ pub enum Refusal {
         /// The first byte of the field at fault.
         place: u32,
     },
+    /// 11: a text is not in the Bristol Fashion form.
+    TextForm {
+        /// The first byte of the token at fault, or the text's length where it ends too early; `u32::MAX` stands for every place from there on.
+        place: u32,
+    },
+    /// 12: a text is in the form, but has a MAND, or its circuit breaks a limit.
+    TextLimit {
+        /// The first byte of the token that shows it; `u32::MAX` stands for every place from there on.
+        place: u32,
+    },
     /// A number that this wrapper does not know: the archive is newer than the wrapper.
     Unknown {
         /// The number as the archive gave it.
@@ -70,6 +80,8 @@ impl Refusal {
             8 => Refusal::CircuitLength { place },
             9 => Refusal::CircuitGate { place },
             10 => Refusal::CircuitOutput { place },
+            11 => Refusal::TextForm { place },
+            12 => Refusal::TextLimit { place },
             _ => Refusal::Unknown { number, place },
         })
     }
@@ -87,11 +99,13 @@ impl Refusal {
             Refusal::CircuitLength { .. } => 8,
             Refusal::CircuitGate { .. } => 9,
             Refusal::CircuitOutput { .. } => 10,
+            Refusal::TextForm { .. } => 11,
+            Refusal::TextLimit { .. } => 12,
             Refusal::Unknown { number, .. } => number,
         }
     }
 
-    /// The place that goes with it: a byte of the circuit for 6 to 10, 0 for 1 to 5 and for a column's kind.
+    /// The place that goes with it: a byte of the circuit for 6 to 10, of the text for 11 and 12, 0 for 1 to 5 and for a column's kind.
     pub fn place(self) -> u32 {
         match self {
             Refusal::Parameter | Refusal::Length | Refusal::Index | Refusal::SecretKeyWord | Refusal::Modulus => 0,
@@ -100,6 +114,8 @@ impl Refusal {
             | Refusal::CircuitLength { place }
             | Refusal::CircuitGate { place }
             | Refusal::CircuitOutput { place }
+            | Refusal::TextForm { place }
+            | Refusal::TextLimit { place }
             | Refusal::Unknown { place, .. } => place,
         }
     }
@@ -119,6 +135,8 @@ impl fmt::Display for Refusal {
             Refusal::CircuitGate { place: 0 } => f.write_str("refused (9): a column's kind must be 3 to 12, a gate of two inputs"),
             Refusal::CircuitGate { place } => write!(f, "refused (9): a gate of the circuit is wrong, at byte {place}"),
             Refusal::CircuitOutput { place } => write!(f, "refused (10): an output of the circuit is no wire of it, at byte {place}"),
+            Refusal::TextForm { place } => write!(f, "refused (11): the text is not in the Bristol Fashion form, at byte {place}"),
+            Refusal::TextLimit { place } => write!(f, "refused (12): the text has a MAND, or its circuit breaks a limit, at byte {place}"),
             Refusal::Unknown { number, place } => write!(f, "refused ({number}) at {place}: this wrapper does not know that number"),
         }
     }

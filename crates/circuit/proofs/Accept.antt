@@ -32,17 +32,17 @@ lt-or-ge x n = go (ltb x n) refl
 -- ---- answers that do not refuse
 
 -- every check's test holds
-abbrev Passed : List FieldCheck → Type 0
+abbrev pub Passed : List FieldCheck → Type 0
 Passed [] = Unit {0}
 Passed (asks test n p ∷ checks) = (test ≡ true) × Passed checks
 
 -- the numbers of checks are not 0, which computes
-abbrev numbered : List FieldCheck → Bool
+abbrev pub numbered : List FieldCheck → Bool
 numbered [] = true
 numbered (asks test n p ∷ checks) = both (ltb 0 n) (numbered checks)
 
 -- checks that do not refuse have all passed
-all-passed : (checks : List FieldCheck) → T (numbered checks) → firstAt checks .number ≡ 0 → Passed checks
+pub all-passed : (checks : List FieldCheck) → T (numbered checks) → firstAt checks .number ≡ 0 → Passed checks
 all-passed [] t e = tt
 all-passed (asks true n p ∷ checks) t e = (refl, all-passed checks (both-right (ltb 0 n) (numbered checks) t) e)
 all-passed (asks false n p ∷ checks) t e = absurd (let h = ltb→lt 0 n (both-left (ltb 0 n) (numbered checks) t) in let q : ⊥ = omega arith in q)
@@ -54,17 +54,17 @@ both-done a b = go (ℕ-discrete (a .number) 0)
     go (yes e) h = (e, rw (eq-eqb (a .number) 0 e) at h)
     go (no d) h = absurd (d (rw (ne-eqb (a .number) 0 d) at h))
 
-or-done : (a b : Answer) → a .number ≡ 0 → orElse a b ≡ b
+pub or-done : (a b : Answer) → a .number ≡ 0 → orElse a b ≡ b
 or-done a b e = rw (eq-eqb (a .number) 0 e)
 
-first-good : (f : ℕ → Answer) (i n : ℕ) → first f i n .number ≡ 0 → (k : ℕ) → i ≤ k → k < i + n → f k .number ≡ 0
+pub first-good : (f : ℕ → Answer) (i n : ℕ) → first f i n .number ≡ 0 → (k : ℕ) → i ≤ k → k < i + n → f k .number ≡ 0
 unfolding first
 first-good f i zero e k a b = absurd (let q : ⊥ = omega arith in q)
 first-good f i (suc n) e k a b =
     let s = both-done (f i) (first f (suc i) n) e in
     ⊎-elim (λ l. let z : i ≡ k = omega arith in rw z at (s .0)) (λ l. first-good f (suc i) n (s .1) k l (omega arith)) (lt-or-ge k (suc i))
 
-first-done : (f : ℕ → Answer) (i n : ℕ) → ((k : ℕ) → k < i + n → f k .number ≡ 0) → first f i n ≡ answer 0
+pub first-done : (f : ℕ → Answer) (i n : ℕ) → ((k : ℕ) → k < i + n → f k .number ≡ 0) → first f i n ≡ answer 0
 unfolding first
 first-done f i zero h = refl
 first-done f i (suc n) h = or-done (f i) (first f (suc i) n) (h i (omega arith)) ∙ first-done f (suc i) n (λ k l. h k (omega arith))

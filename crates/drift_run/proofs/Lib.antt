@@ -7,3 +7,4 @@ pub mod Checks
 pub mod Results
 pub mod Determined
 pub mod Laws
+pub mod Imported

@@ -5,6 +5,8 @@ use Rattle.egl_c.proofs.trgsw_c.egl_trgsw_blind_rotate_step as egl-trgs
 use Rattle.egl_c.proofs.trgsw_c.egl_trgsw_blind_rotate as egl-trgsw-blind-rotate
 use Rattle.egl_c.proofs.trgsw_c.egl_trgsw_encrypt_torus as egl-trgsw-encrypt-torus
 use Rattle.egl_c.proofs.trgsw_c.egl_trgsw_gen_bootstrapping_key as egl-trgsw-gen-bootstrapping-key
+use Rattle.egl_c.proofs.bristol_c.egl_bristol_import as egl-bristol-import
+use Rattle.egl_c.proofs.bristol_c.egl_bristol_export as egl-bristol-export
 use Rattle.egl_c.proofs.circuit_c.egl_circuit_check as egl-circuit-check
 use Rattle.egl_c.proofs.circuit_c.egl_circuit_counts as egl-circuit-counts
 use Rattle.egl_c.proofs.circuit_c.egl_circuit_work as egl-circuit-work
@@ -46,6 +48,12 @@ egl-trgsw-encrypt-torus-determined κs a x y v w = said-written 10
 
 pub egl-trgsw-gen-bootstrapping-key-determined : Determined egl-trgsw-gen-bootstrapping-key.ended egl-trgsw-gen-bootstrapping-key.Reads.Learnt
 egl-trgsw-gen-bootstrapping-key-determined κs a x y v w = said-written 10
+
+pub egl-bristol-import-determined : Determined egl-bristol-import.ended egl-bristol-import.Reads.Learnt
+egl-bristol-import-determined κs a x y v w = said-written 1
+
+pub egl-bristol-export-determined : Determined egl-bristol-export.ended egl-bristol-export.Reads.Learnt
+egl-bristol-export-determined κs a x y v w = said-written 1
 
 pub egl-circuit-check-determined : Determined egl-circuit-check.ended egl-circuit-check.Reads.Learnt
 egl-circuit-check-determined κs a x y v w = said

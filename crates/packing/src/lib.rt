@@ -6,7 +6,7 @@ ghost use Prim.Native.Nat.{_%_};
 ghost use Rattle.params.specs.Published.{numbers};
 ghost use Rattle.ring.specs.Bit.{bitNumber};
 ghost use Rattle.ring.specs.Word.{Q};
-ghost use Rattle.packing.specs.Packed.{packed, packedWith, packedTold};
+ghost use Rattle.packing.specs.Packed.{packed, packedWith, packedTold, capped, packedText};
 
 // The record of the six numbers, which C hands over one by one.
 pub fn numbers(n: u32, nbit: u32, bgbit: u32, l: u32, basebit: u32, t: u32) -> Params
@@ -44,6 +44,24 @@ pub fn pack_told(a: Answer, value: u32) -> u64
         return pack(a);
     }
     pack_with(a, value)
+}
+
+// A place or a length of any size as 32 bits tell it.
+pub fn capped(v: usize) -> u32
+    ensures { λ r. ⌜ r ≡ capped v ⌝ }
+{
+    if v < 4294967295 {
+        return v as u32;
+    }
+    4294967295
+}
+
+// An answer of a routine on texts: its length where it is done, its place where it refuses.
+pub fn pack_text(number: u32, place: usize, length: usize) -> u64
+    ensures { λ r. ⌜ r ≡ packedText number place length ⌝ }
+{
+    let place = capped(place);
+    pack_told(Answer { number, place }, capped(length))
 }
 
 // A bit as a number.

@@ -57,6 +57,10 @@ length-to (suc k) n h =
 pub length-ten : (n : ℕ) → n < 10000000000 → length (decimal n) ≤ 10
 length-ten n h = length-to 9 n h
 
+-- and twenty for every count
+pub length-twenty : (n : ℕ) → n < 18446744073709551616 → length (decimal n) ≤ 20
+length-twenty n h = length-to 19 n (omega arith)
+
 pub length-from : (n : ℕ) → 1 ≤ length (decimal n)
 length-from n =
     ⊎-elim

@@ -1,4 +1,4 @@
--- What `describe` answers and leaves for bytes that are no circuit, in a slice that is too short, just long enough and longer: computed over the definitions.
+-- What `describe` answers and leaves for bytes that are no circuit, in a slice that is too short, just long enough and longer, and a refusal's line: computed over the definitions.
 -- Assumes nothing.
 use mathlib.Core.Path.{_≡_, refl}
 use mathlib.Core.List.{List, [], _∷_, _++_}
@@ -7,7 +7,7 @@ use Rattle.ring.specs.Sums.{tab}
 use Rattle.params.specs.Refusal.{answer}
 use Rattle.circuit.specs.Form.{answerOf, headFields}
 use Rattle.report.specs.Decimal.{decimalTo, decimal}
-use Rattle.report.specs.Text.{named, refusedText, textOf, describeNumber, describeOut, described, describeAnswer}
+use Rattle.report.specs.Text.{named, refusedText, refusedLine, textOf, describeNumber, describeOut, described, describeAnswer}
 
 -- `refused 8 at 0` and the line's end: the text of no bytes at all
 abbrev text : List ℕ
@@ -25,3 +25,8 @@ told = (refl, refl, refl)
 pub left : (describeOut [] (sevens 15) ≡ text) × (describeOut [] (sevens 17) ≡ text ++ sevens 2) × (describeOut [] (sevens 14) ≡ sevens 14)
 unfolding tab answerOf headFields decimalTo decimal named refusedText textOf describeNumber describeOut
 left = (refl, refl, refl)
+
+-- `refused 11 at 17`
+pub line : refusedLine 11 17 ≡ 114 ∷ 101 ∷ 102 ∷ 117 ∷ 115 ∷ 101 ∷ 100 ∷ 32 ∷ 49 ∷ 49 ∷ 32 ∷ 97 ∷ 116 ∷ 32 ∷ 49 ∷ 55 ∷ 10 ∷ []
+unfolding decimalTo decimal named refusedText
+line = refl

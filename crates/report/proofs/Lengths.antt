@@ -23,8 +23,8 @@ use Rattle.kinds.proofs.Table.{both, both-left, both-right}
 use Rattle.circuit.proofs.Accept.{lt-or-ge, head-good, accepted}
 use Rattle.circuit.proofs.Longest.{answer-cut, accepted-whole}
 use Rattle.report.specs.declared.Described.{Described}
-use Rattle.report.specs.Text.{named, refusedWord, atWord, headText, rowsTo, refusedText, room, textOf, describeOut, describeAnswer}
-use Rattle.report.proofs.Pieces.{length-named, length-rows, rows-to}
+use Rattle.report.specs.Text.{headText, rowsTo, refusedText, room, textOf, describeOut, describeAnswer}
+use Rattle.report.proofs.Pieces.{refused-line-fits, length-rows, rows-to}
 use Rattle.report.proofs.Texts.{text-refused, text-long, text-table, length-head, answer-fits, out-fits}
 
 -- ---- a refusal's numbers are small
@@ -105,13 +105,10 @@ module _ (bs : List ℕ) where
   -- ---- the text fits
 
   refused-fits : length (refusedText (answerOf bs)) ≤ room
-  unfolding refusedText
   refused-fits =
       let s = answer-small in
-      let n = length-named refusedWord (answerOf bs .number) (s .number-to) in
-      let p = length-named atWord (answerOf bs .place) (s .place-to) in
-      let e = length-append (named refusedWord (answerOf bs .number)) (named atWord (answerOf bs .place)) in
-      let f = length-append (named refusedWord (answerOf bs .number) ++ named atWord (answerOf bs .place)) (10 ∷ []) in
+      let p = s .place-to in
+      let l = refused-line-fits (answerOf bs .number) (answerOf bs .place) (s .number-to) (omega arith) in
       omega arith
 
   accepted-fits : answerOf bs .number ≡ 0 → length (textOf bs) ≤ room

@@ -18,8 +18,8 @@ use Rattle.circuit.specs.Plain.{outputBits, wiresOf, workOf}
 use Rattle.circuit.proofs.Laws.{work-to}
 use Rattle.report.specs.Decimal.{decimal}
 use Rattle.report.specs.Private.{splice}
-use Rattle.report.specs.Text.{eglWord, inputsWord, gatesWord, named, bitChar, bitsText, countsText, lineText, rowInputs, rowText, rowsTo}
-use Rattle.report.proofs.Digits.{length-ten}
+use Rattle.report.specs.Text.{eglWord, inputsWord, gatesWord, refusedWord, atWord, named, refusedText, refusedLine, refusedRoom, bitChar, bitsText, countsText, lineText, rowInputs, rowText, rowsTo}
+use Rattle.report.proofs.Digits.{length-ten, length-twenty}
 use Rattle.report.proofs.Spliced.{splice-none, splice-next}
 
 -- the text p stands in o from place i on, and the next place is j
@@ -38,6 +38,20 @@ written-next o i p q w h e d =
 pub length-named : (word : List ℕ) (n : ℕ) → n < 10000000000 → length (named word n) ≤ length word + 10
 unfolding named
 length-named word n h = let e = length-append word (decimal n) in let l = length-ten n h in omega arith
+
+pub length-named-count : (word : List ℕ) (n : ℕ) → n < 18446744073709551616 → length (named word n) ≤ length word + 20
+unfolding named
+length-named-count word n h = let e = length-append word (decimal n) in let l = length-twenty n h in omega arith
+
+-- a refusal's line, its place being any count
+pub refused-line-fits : (number place : ℕ) → number < 10000000000 → place < 18446744073709551616 → length (refusedLine number place) ≤ refusedRoom
+unfolding refusedText
+refused-line-fits number place h k =
+    let n = length-named refusedWord number h in
+    let p = length-named-count atWord place k in
+    let e = length-append (named refusedWord number) (named atWord place) in
+    let f = length-append (named refusedWord number ++ named atWord place) (10 ∷ []) in
+    omega arith
 
 pub length-line : (ins outs : List ℕ) → length (lineText ins outs) ≡ length ins + length outs + 2
 unfolding lineText

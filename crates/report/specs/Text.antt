@@ -91,6 +91,14 @@ tableText bs = cond (leb (inputs bs) 4) (rowsTo bs (2 ^ inputs bs)) []
 unfoldable pub refusedText : Answer → List ℕ
 refusedText a = named refusedWord (a .number) ++ named atWord (a .place) ++ (10 ∷ [])
 
+-- The same of a number and a place by themselves.
+abbrev pub refusedLine : ℕ → ℕ → List ℕ
+refusedLine number place = refusedText (record { number = number; place = place })
+
+-- How much room is kept for such a line: `refused-line-fits` of proofs/Pieces.antt shows that none is longer.
+abbrev pub refusedRoom : ℕ
+refusedRoom = 64
+
 -- The whole text.
 unfoldable pub textOf : List ℕ → List ℕ
 textOf bs = ifDone (answerOf bs .number) (headText bs ++ tableText bs) (refusedText (answerOf bs))

@@ -1,10 +1,12 @@
 // What a circuit's bytes say, as text: what the program prints (01, 'Circuits').
+use lines::put_refused;
 use lines::put_text;
 use params::Answer;
 use text::put;
 ghost use mathlib.Core.Path.{_≡_};
-ghost use lib.ListN.{length};
-ghost use Rattle.report.specs.Text.{describeAnswer, describeOut};
+ghost use mathlib.Core.List.{_++_};
+ghost use lib.ListN.{length, drop};
+ghost use Rattle.report.specs.Text.{describeAnswer, describeOut, refusedLine};
 
 mod lines;
 mod text;
@@ -39,4 +41,12 @@ pub fn describe(bytes: &[u8], out: &mut [u8]) -> Described
         },
         length: n,
     }
+}
+
+// The line of a refusal, such as `refused 9 at 13`, into the front of an array that has room for any of them, and its length.
+pub fn refused(number: u32, place: usize, out: &mut [u8; 64]) -> usize
+    ensures said { λ r. ⌜ r ≡ length (refusedLine number place) ⌝ }
+    ensures written { λ _. ⌜ now (out .exit) ≡ refusedLine number place ++ drop (length (refusedLine number place)) (now (out .entry)) ⌝ }
+{
+    put_refused(out, number, place)
 }

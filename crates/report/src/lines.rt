@@ -11,16 +11,16 @@ ghost use Rattle.circuit.specs.Form.{inputs, outputs, answerOf};
 ghost use Rattle.circuit.specs.Private.{refusal};
 ghost use Rattle.circuit.specs.Plain.{workOf};
 ghost use Rattle.report.specs.Private.{splice};
-ghost use Rattle.report.specs.Text.{countsText, headText, refusedText, rowText, rowsTo, textOf};
+ghost use Rattle.report.specs.Text.{countsText, headText, refusedText, refusedRoom, rowText, rowsTo, textOf};
 
 // A refusal's line.
-fn put_refused(out: &mut [u8], number: u32, place: u32) -> usize
-    requires { ⌜ 64 ≤ length (now out) ⌝ }
-    ensures { λ r. ⌜ (r ≡ length (refusedText (refusal number place))) × (r ≤ 64) ⌝ }
+pub(crate) fn put_refused(out: &mut [u8], number: u32, place: usize) -> usize
+    requires { ⌜ refusedRoom ≤ length (now out) ⌝ }
+    ensures { λ r. ⌜ (r ≡ length (refusedText (refusal number place))) × (r ≤ refusedRoom) ⌝ }
     ensures { λ _. ⌜ now (out .exit) ≡ splice (now (out .entry)) 0 (refusedText (refusal number place)) ⌝ }
 {
     let a = put_named(out, 0, b"refused ", number as usize);
-    let b = put_named(out, a, b" at ", place as usize);
+    let b = put_named(out, a, b" at ", place);
     put_byte(out, b, 10)
 }
 
@@ -128,7 +128,7 @@ pub(crate) fn put_text(bytes: &[u8], out: &mut [u8]) -> usize
     let w = circuit::work(bytes);
     let answer = w.answer;
     if answer.number != 0 {
-        return put_refused(out, answer.number, answer.place);
+        return put_refused(out, answer.number, answer.place as usize);
     }
     let a = put_head(bytes, w.value, out);
     let counts = circuit::counts(bytes);

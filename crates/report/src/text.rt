@@ -58,9 +58,9 @@ fn put_number(out: &mut [u8], at: usize, n: usize) -> usize
     put_byte(out, next, 48 + ((n % 10) as u8))
 }
 
-// A word and the number that it names, which has at most 10 digits.
+// A word and the number that it names, which has at most 20 digits.
 pub(crate) fn put_named(out: &mut [u8], at: usize, word: &[u8], n: usize) -> usize
-    requires { ⌜ (n < 10000000000) × (at + length (now word) + 10 ≤ length (now out)) ⌝ }
+    requires { ⌜ at + length (now word) + 20 ≤ length (now out) ⌝ }
     ensures { λ r. ⌜ r ≡ at + length (named (now (word .entry)) n) ⌝ }
     ensures { λ _. ⌜ now (out .exit) ≡ splice (now (out .entry)) at (named (now (word .entry)) n) ⌝ }
 {

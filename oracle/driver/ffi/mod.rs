@@ -117,7 +117,10 @@ pub fn turn(arg: &Arg) -> f64 {
     }
 }
 
-#[cfg(group_circuit)]
+#[cfg(group_bristol)]
+pub mod bristol;
+// imported and exported circuits are run on plain bits
+#[cfg(any(group_circuit, group_bristol))]
 pub mod circuit;
 #[cfg(group_column)]
 pub mod column;

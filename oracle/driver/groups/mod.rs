@@ -1,5 +1,9 @@
 //! The groups of comparisons. A group runs once, or once for each set.
 
+#[cfg(group_bristol)]
+pub mod bristol;
+#[cfg(group_bristol)]
+mod bristol_limits;
 #[cfg(group_circuit)]
 pub mod circuit;
 #[cfg(group_column)]
@@ -74,6 +78,8 @@ pub fn groups() -> Vec<Group> {
         Group { name: "column", run: Run::EachSet(column::run), routines: &column::ROUTINES },
         #[cfg(group_circuit)]
         Group { name: "circuit", run: Run::Once(circuit::run), routines: &[] },
+        #[cfg(group_bristol)]
+        Group { name: "bristol", run: Run::Once(bristol::run), routines: &[] },
         #[cfg(group_encrypted)]
         Group { name: "encrypted", run: Run::EachSet(encrypted::run), routines: &[] },
         #[cfg(group_drift)]

@@ -169,6 +169,10 @@ fn the_caller_does_all_where_no_thread_starts() {
         let mut own = Command::new(env::current_exe().unwrap());
         own.args(["--exact", ALONE, "--test-threads=1"]).env("EGL_TEST_ALONE", "1").env("RUST_MIN_STACK", (1u64 << 60).to_string());
         return match own.output() {
+            // Under some emulators a program that cannot be started is not told as an error: it ends with the shell's status for that, having written nothing.
+            Ok(output) if output.status.code() == Some(127) && output.stdout.is_empty() => {
+                eprintln!("a process without threads is not tried, since this one cannot be started again")
+            }
             Ok(output) => {
                 let text = String::from_utf8_lossy(&output.stdout);
                 assert!(output.status.success() && text.contains("1 passed"), "{text}{}", String::from_utf8_lossy(&output.stderr));

@@ -1,5 +1,6 @@
 //! The wrapper's tests. They run at small parameter sets and with fixed seeds, so that a failure can be repeated.
 
+mod bristol;
 mod builder;
 mod circuits;
 mod column;

@@ -131,7 +131,7 @@ fn no_number_is_lost() {
     for number in (1..=40).chain([u64::from(u32::MAX)]) {
         let refusal = Refusal::of_answer(place | number).unwrap_err();
         assert_eq!(u64::from(refusal.number()), number);
-        let known = number <= 10;
+        let known = number <= 12;
         assert_eq!(matches!(refusal, Refusal::Unknown { .. }), !known);
         assert_eq!(refusal.place(), if number <= 5 { 0 } else { 7 });
         let text = refusal.to_string();

@@ -22,7 +22,7 @@ put-named-requires c κs =
     let b = now (c .before .before .before .before .before .args .bytes) in
     let h = accepted b (c .before .before .before .before .before .pre .0) .head in
     let v = counts-version b (c .before .before .counts .ensures) in
-    (omega arith, omega arith)
+    omega arith
 
 put-named-requires-2 : tie.Need-put-named-requires-2
 put-named-requires-2 c κs =
@@ -34,7 +34,7 @@ put-named-requires-2 c κs =
     let l = length-named eglWord (c .before .before .before .before .before .before .before .counts .result .version) (omega arith) in
     let e = c .before .before .before .before .put-named .ensures in
     let k = c .before .before .before .before .put-named .kept .0 in
-    (omega arith, omega arith)
+    omega arith
 
 put-named-requires-3 : tie.Need-put-named-requires-3
 put-named-requires-3 c κs =
@@ -50,7 +50,7 @@ put-named-requires-3 c κs =
     let e2 = c .before .before .before .before .put-named2 .ensures in
     let k1 = c .before .before .before .before .before .before .before .before .before .put-named .kept .0 in
     let k2 = c .before .before .before .before .put-named2 .kept .0 in
-    (omega arith, omega arith)
+    omega arith
 
 returns : tie.Need-returns
 unfolding countsText countsOf

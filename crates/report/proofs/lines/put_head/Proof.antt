@@ -23,7 +23,7 @@ put-named-requires c κs =
     let l = length-counts b h in
     let e = c .before .before .before .before .put-counts .ensures in
     let k = c .before .before .before .before .put-counts .kept .1 .0 in
-    (omega arith, omega arith)
+    omega arith
 
 put-named-requires-2 : tie.Need-put-named-requires-2
 put-named-requires-2 c κs =
@@ -36,7 +36,7 @@ put-named-requires-2 c κs =
     let e2 = c .before .before .before .before .put-named .ensures in
     let k1 = c .before .before .before .before .before .before .before .before .before .put-counts .kept .1 .0 in
     let k2 = c .before .before .before .before .put-named .kept .0 in
-    (omega arith, omega arith)
+    omega arith
 
 put-byte-requires : tie.Need-put-byte-requires
 put-byte-requires c κs =

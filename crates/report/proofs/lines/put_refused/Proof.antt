@@ -7,7 +7,7 @@ use native.Mathlib.Omega.{arith}
 use denote.Ref.{now}
 use borrow.Author.Needs.{needs}
 use Rattle.report.specs.Text.{refusedWord, atWord, named, refusedText}
-use Rattle.report.proofs.Pieces.{Written, written-next, length-named}
+use Rattle.report.proofs.Pieces.{Written, written-next, length-named, length-named-count}
 use Rattle.report.proofs.lines.put_refused.Statement.{statement}
 use Rattle.report.proofs.lines.put_refused.Tie as tie
 
@@ -17,13 +17,13 @@ put-named-requires-2 c κs =
     let l = length-named refusedWord (a .number) (omega arith) in
     let e = c .before .before .before .before .put-named .ensures in
     let k = c .before .before .before .before .put-named .kept .0 in
-    (omega arith, omega arith)
+    omega arith
 
 put-byte-requires : tie.Need-put-byte-requires
 put-byte-requires c κs =
     let a = c .before .before .before .before .before .before .before .before .before .before .before .before .args in
     let l1 = length-named refusedWord (a .number) (omega arith) in
-    let l2 = length-named atWord (a .place) (omega arith) in
+    let l2 = length-named-count atWord (a .place) (omega arith) in
     let e1 = c .before .before .before .before .before .before .before .before .put-named .ensures in
     let e2 = c .before .before .before .put-named2 .ensures in
     let k1 = c .before .before .before .before .before .before .before .before .put-named .kept .0 in
@@ -36,7 +36,7 @@ returns c =
     let a = c .before .before .before .before .before .before .before .before .before .before .before .before .before .before .before .args in
     let o = now (a .out) in
     let l1 = length-named refusedWord (a .number) (omega arith) in
-    let l2 = length-named atWord (a .place) (omega arith) in
+    let l2 = length-named-count atWord (a .place) (omega arith) in
     let e1 = c .before .before .before .before .before .before .before .before .before .before .before .put-named .ensures in
     let e2 = c .before .before .before .before .before .before .put-named2 .ensures in
     let e3 = c .before .before .put-byte .ensures in

@@ -21,10 +21,10 @@ use Rattle.report.proofs.lines.put_text.Tie as tie
 
 returns : tie.Need-returns
 returns c =
-    let a = c .before .before .before .before .before .before .before .before .before .before .args in
+    let a = c .before .before .before .before .before .before .before .before .before .before .before .args in
     let b = now (a .bytes) in
-    let s = work-said b (c .before .before .before .before .before .before .before .work .ensures) in
-    let t = ap (λ (x : Answer). refusedText (refusal (x .number) (x .place))) s ∙ text-refused b (λ z. c .before .before .before .before .if1 .taken (ap (λ (x : Answer). x .number) s ∙ z)) in
+    let s = work-said b (c .before .before .before .before .before .before .before .before .work .ensures) in
+    let t = ap (λ (x : Answer). refusedText (refusal (x .number) (x .place))) s ∙ text-refused b (λ z. c .before .before .before .before .before .if1 .taken (ap (λ (x : Answer). x .number) s ∙ z)) in
     let e = c .before .before .put-refused .ensures in
     let l = e .0 .1 in
     ((e .0 .0 ∙ ap length t, omega arith), e .1 ∙ ap (λ (x : List ℕ). splice (now (a .out)) 0 x) t)
@@ -83,5 +83,5 @@ returns-3 c =
 pub put-text-spec : {M : Type 1} → statement M
 put-text-spec =
     tie.close
-    (tie.spec (λ c κs. search needs) (λ c κs. search needs) (λ c. search needs) returns put-head-requires (λ c κs. search needs) (λ c. search needs) returns-2
+    (tie.spec (λ c κs. search needs) (λ c. search needs) (λ c κs. search needs) (λ c. search needs) returns put-head-requires (λ c κs. search needs) (λ c. search needs) returns-2
     put-rows-requires (λ c. search needs) returns-3)

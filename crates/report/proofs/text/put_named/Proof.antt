@@ -5,7 +5,7 @@ use denote.Ref.{now}
 use borrow.Author.Needs.{needs}
 use Rattle.report.specs.Decimal.{decimal}
 use Rattle.report.specs.Text.{named}
-use Rattle.report.proofs.Digits.{length-ten}
+use Rattle.report.proofs.Digits.{length-twenty}
 use Rattle.report.proofs.Pieces.{Written, written-next}
 use Rattle.report.proofs.text.put_named.Statement.{statement}
 use Rattle.report.proofs.text.put_named.Tie as tie
@@ -13,7 +13,7 @@ use Rattle.report.proofs.text.put_named.Tie as tie
 put-number-requires : tie.Need-put-number-requires
 put-number-requires c κs =
     let a = c .before .before .before .before .before .before .before .args in
-    let l = length-ten (a .n) (c .before .before .before .before .before .before .before .pre .0) in
+    let l = length-twenty (a .n) (omega arith) in
     let e = c .before .before .before .put .ensures in
     let k = c .before .before .before .put .kept .0 in
     omega arith

@@ -1,0 +1,16 @@
+pub mod TextGates
+pub mod Set
+pub mod OurWires
+pub mod Behind
+pub mod BehindSteps
+pub mod ImportedBytes
+pub mod Small
+pub mod OneEach
+pub mod Laws
+pub mod Calls
+pub mod Examples
+pub mod Laid
+pub mod TextLines
+pub mod PutGates
+pub mod Imports
+pub mod Determined

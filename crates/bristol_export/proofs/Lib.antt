@@ -1,0 +1,9 @@
+pub mod Laid
+pub mod Columns
+pub mod Digits
+pub mod Wires
+pub mod Lengths
+pub mod Pieces
+pub mod Answers
+pub mod Examples
+pub mod Determined

@@ -1,0 +1,13 @@
+pub mod Before
+pub mod Line
+pub mod Lines
+pub mod Formed
+pub mod Values
+pub mod Rows
+pub mod KindLines
+pub mod Head
+pub mod Exported
+pub mod Meaning
+pub mod Counts
+pub mod RoundTrip
+pub mod Calls

@@ -1,0 +1,3 @@
+pub mod Tokens
+pub mod Back
+pub mod Private
