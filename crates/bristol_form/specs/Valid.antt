@@ -25,7 +25,8 @@ pub record GoodGate (text : List ℕ) (j : ℕ) : Type 0 where
   pub results-new : (y : ℕ) → y < resultCount text (gateAt text j) → isSet text j (result text (gateAt text j) y) ≡ false
   pub results-apart : (y : ℕ) → y < resultCount text (gateAt text j) → setBy text (gateAt text j) y (result text (gateAt text j) y) ≡ false
 
--- A text in the form: numbers in the head, inputs and results that make up all the wires, outputs among them, good gates, and nothing after them.
+-- A text in the form: numbers in the head, inputs and results that make up all the wires, outputs among them, good gates, and nothing after them. Sizes, operands and
+-- results are numbers too: what is none counts 2^32, and no sum or wire is as large.
 pub record InForm (text : List ℕ) : Type 0 where
   pub gates-number : gates text < noNumber
   pub wires-number : wires text < noNumber
