@@ -31,7 +31,7 @@ declare! {
     fn egl_gates_nand(a: In, a_len: usize, b: In, b_len: usize, s: In, s_len: usize, k: In, k_len: usize, out: Out, out_len: usize);
     #[cfg(group_column)]
     fn egl_gate_column(kind: usize, count: usize, pairs: In, pairs_len: usize, s: In, s_len: usize, k: In, k_len: usize, out: Out, out_len: usize);
-    #[cfg(group_drift)]
+    #[cfg(any(group_work, group_drift))]
     fn egl_circuit_run_encrypted(s: In, s_len: usize, k: In, k_len: usize, c: Bytes, c_len: usize, ins: In, ins_len: usize, wires: Out, wires_len: usize, out: Out, out_len: usize);
     #[cfg(group_drift)]
     fn egl_drift_run(s: In, s_len: usize, k: In, k_len: usize, key: In, key_len: usize, z: In, z_len: usize, c: Bytes, c_len: usize, ins: In, ins_len: usize, plain: Bytes, plain_len: usize, wires: Out, wires_len: usize, out: Out, out_len: usize, drifts: Out, drifts_len: usize);
@@ -41,6 +41,11 @@ declare! {
 unsafe extern "C" {
     // no parameters travel with a circuit
     fn egl_circuit_check(bytes: *const u8, bytes_len: usize) -> u64;
+}
+
+#[cfg(group_work)]
+unsafe extern "C" {
+    fn egl_circuit_work(bytes: *const u8, bytes_len: usize) -> u64;
 }
 
 #[cfg(group_bristol)]
@@ -105,7 +110,7 @@ pub fn column_of_nands(p: &[u32; 6], pairs: &[u32], s: &[u32], k: &[u32], out: &
 }
 
 /// The words that a run is lent: the switching key, the bootstrapping key and the inputs' ciphertexts, then the wires' and the outputs' to be written.
-#[cfg(group_drift)]
+#[cfg(any(group_work, group_drift))]
 pub struct Lent<'a> {
     pub keys: [&'a [u32]; 2],
     pub circuit: &'a [u8],
@@ -114,7 +119,7 @@ pub struct Lent<'a> {
     pub out: &'a mut [u32],
 }
 
-#[cfg(group_drift)]
+#[cfg(any(group_work, group_drift))]
 pub fn run_encrypted(p: &[u32; 6], Lent { keys: [s, k], circuit: c, ins, wires, out }: Lent) {
     done!(p, egl_circuit_run_encrypted(s.as_ptr(), s.len(), k.as_ptr(), k.len(), c.as_ptr(), c.len(), ins.as_ptr(), ins.len(), wires.as_mut_ptr(), wires.len(), out.as_mut_ptr(), out.len()))
 }
@@ -137,6 +142,14 @@ pub fn run_drift(p: &[u32; 6], Lent { keys: [s, k], circuit: c, ins, wires, out 
 #[cfg(group_circuit)]
 pub fn check_circuit(bytes: &[u8]) -> u64 {
     unsafe { egl_circuit_check(bytes.as_ptr(), bytes.len()) }
+}
+
+/// The work of a circuit, which stands in the high half.
+#[cfg(group_work)]
+pub fn work(bytes: &[u8]) -> u32 {
+    let answer = unsafe { egl_circuit_work(bytes.as_ptr(), bytes.len()) };
+    assert_eq!(answer as u32, 0, "the library refused");
+    (answer >> 32) as u32
 }
 
 /// Here too: the length above, or the number and its place.

@@ -8,6 +8,8 @@ mod library;
 mod measure;
 mod plain;
 mod transform;
+#[cfg(group_work)]
+mod work;
 
 use measure::{table, way};
 use std::hint::black_box;
@@ -221,6 +223,10 @@ fn main() {
     #[cfg(group_circuit)]
     if wanted("circuit") {
         circuits();
+    }
+    #[cfg(group_work)]
+    if wanted("work") {
+        work::run();
     }
     #[cfg(group_bristol)]
     if wanted("bristol") {

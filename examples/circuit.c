@@ -28,7 +28,9 @@ int main(void) {
     draw_keys(P, key0, key1, ksk, bsk);
 
     int wrong = 0;
-    printf("work %u\na b c  sum carry\n", EGL_VALUE(done("work", egl_circuit_work(adder, sizeof adder))));
+    uint32_t work = EGL_VALUE(done("work", egl_circuit_work(adder, sizeof adder)));
+    wrong += work != 4;
+    printf("%d gates, work %u: the two xors rotate once each, the mux twice\na b c  sum carry\n", gates, work);
     for (unsigned row = 0; row < 1u << inputs; row++) {
         uint8_t bits[inputs], meant[outputs];
         for (unsigned i = 0; i < inputs; i++) {
@@ -45,6 +47,6 @@ int main(void) {
         }
         printf("\n");
     }
-    printf("%d of %d wrong\n", wrong, outputs << inputs);
+    printf("%d of %d wrong\n", wrong, (outputs << inputs) + 1);
     return wrong != 0;
 }

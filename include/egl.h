@@ -40,7 +40,7 @@ extern "C" {
 
 /* The interface that this header describes. One more with each release in which a function is added, taken away or changed: where egl_version() gives another number, header and
  * archive do not belong together. */
-#define EGL_VERSION 3
+#define EGL_VERSION 4
 
 /* The interface that the archive has. */
 uint32_t egl_version(void);
@@ -321,11 +321,13 @@ egl_answer egl_gate_column(EGL_PARAMS, size_t kind, size_t count, const uint32_t
 /* Whether the bytes are a circuit. Refusals 6 to 10 with their place. */
 egl_answer egl_circuit_check(const uint8_t *bytes, size_t bytes_len);
 
-/* What a circuit has, for a caller who sizes buffers: out[0] is its version, out[1] the inputs, out[2] the gates, out[3] the outputs, out[4] its work. It has
- * out[1] + out[2] wires. out has EGL_CIRCUIT_COUNTS words. Refusals 6 to 10 with their place, then 2. */
+/* What a circuit has, for a caller who sizes buffers: out[0] is its version, out[1] the inputs, out[2] the gates, out[3] the outputs, out[4] its work as
+ * egl_circuit_work tells it. It has out[1] + out[2] wires. out has EGL_CIRCUIT_COUNTS words. Refusals 6 to 10 with their place, then 2. */
 egl_answer egl_circuit_counts(const uint8_t *bytes, size_t bytes_len, uint32_t *out, size_t out_len);
 
-/* The work of a circuit, as the value: one for each gate of kind 3 or more. Refusals 6 to 10 with their place. */
+/* The work of a circuit, as the value: the number of blind rotations of its encrypted run, one for each gate of kind 3 to 12 and two for a mux, kind 13; at most
+ * 2,048. The work times the time of egl_gates_nand is about what a run takes. Up to version 3 of this interface a mux counted one. Refusals 6 to 10 with their
+ * place. */
 egl_answer egl_circuit_work(const uint8_t *bytes, size_t bytes_len);
 
 /* A circuit on plain bits: ins has a byte an input (0 false, any other true), out gets a byte an output, 0 or 1. Refusals 6 to 10 with their place, then 2. */

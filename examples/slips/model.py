@@ -132,7 +132,11 @@ def test_vector(p):
     return [[0] * size(p), [EIGHTH] * size(p)]
 
 
+rotated_sums = []  # what was rotated so far, in order
+
+
 def blind_rotated(p, bsk, src, steps=None):
+    rotated_sums.append(src)
     pair = [rotated(half, body_amount(p, src[p.n])) for half in test_vector(p)]
     for i in range(p.n if steps is None else steps):
         pair = step(p, bsk[i], src[i], pair)
@@ -152,7 +156,7 @@ def switched(p, ksk, src, passes_over_zero=True):
 
 
 # multiples of a and b, and eighths (01, gates)
-SUMS = {'nand': (-1, -1, 1), 'xor': (1, 2, 2), 'xnor': (1, -2, -2)}
+SUMS = {'nand': (-1, -1, 1), 'and': (1, 1, -1), 'and_ny': (-1, 1, -1), 'xor': (1, 2, 2), 'xnor': (1, -2, -2)}
 
 
 def eighths(kind, a, b):
@@ -161,11 +165,23 @@ def eighths(kind, a, b):
     return (x * (1 if a else -1) + y * (1 if b else -1) + c + 4) % 8 - 4
 
 
-def gate(p, kind, a, b, ksk, bsk, steps=None):
+def sample(p, kind, a, b, bsk, steps=None):
+    """The sum, rotated and extracted."""
     x, y, c = SUMS[kind]
     src = [(x * u + y * v) % Q for u, v in zip(a, b)]
     src[p.n] = (src[p.n] + c * EIGHTH) % Q
-    return switched(p, ksk, extracted(*blind_rotated(p, bsk, src, steps), 0))
+    return extracted(*blind_rotated(p, bsk, src, steps), 0)
+
+
+def gate(p, kind, a, b, ksk, bsk, steps=None):
+    return switched(p, ksk, sample(p, kind, a, b, bsk, steps))
+
+
+def mux(p, a, b, c, ksk, bsk):
+    """and(a, b) and and_ny(a, c) extracted, added at level 1 with +1, one key switch."""
+    both = plus(sample(p, 'and', a, b, bsk), sample(p, 'and_ny', a, c, bsk))
+    both[size(p)] = (both[size(p)] + EIGHTH) % Q
+    return switched(p, ksk, both)
 
 
 # ---- encryption and decryption

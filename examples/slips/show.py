@@ -4,7 +4,7 @@ import sys
 
 sys.dont_write_bytecode = True
 from model import (EIGHTH, Q, SET_128, Params, body_amount, bootstrapping_key, centred, decrypted, digits, document01, eighths, encrypted,
-                   extracted, gate, negative, offset, phase, remainder, rotated, size, step, switched, switching_key, test_vector, word, words)
+                   extracted, gate, mux, negative, offset, phase, remainder, rotated, rotated_sums, size, step, switched, switching_key, test_vector, word, words)
 
 PAIRS = [(0, 0), (1, 0), (0, 1), (1, 1)]
 SMALL = Params(n=2, nbit=3, bgbit=8, l=2, basebit=2, t=5)
@@ -161,10 +161,13 @@ def all_in_step_one():
 
 @slip('made-up-work')
 def made_up_work():
-    kinds = [13]
-    print('a circuit of one mux, which is kind 13: the first line that the program prints')
-    right, wrong = (sum(work(kind) for kind in kinds) for work in (lambda kind: int(kind >= 3), lambda kind: 2 if kind == 13 else int(kind >= 3)))
-    beside(*('EGL 1 inputs 3 gates 1 outputs 1 work %d' % work for work in (right, wrong)))
+    key, before = [1, 1], len(rotated_sums)
+    (a, b), gates = operands(key, 1, 0), 1
+    out = mux(SMALL, a, b, a, *keys(key))
+    sums = rotated_sums[before:]
+    print('a circuit of one mux, here of true, false and true, which gives %d: the sums that it rotates, and the first line that the program prints' % decrypted(key, out))
+    print('  ' + '   '.join(words(src) for src in sums))
+    beside(*('EGL 1 inputs 3 gates 1 outputs 1 work %d' % work for work in (len(sums), gates)))
 
 
 # ---- xnor

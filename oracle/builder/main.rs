@@ -21,13 +21,13 @@ const GROUPS: [&str; 14] =
     ["params", "utils", "product", "tlwe", "trlwe", "key", "rotation", "trgsw", "gates", "column", "circuit", "bristol", "encrypted", "drift"];
 
 /// The files in ffi/ with the functions that a group needs: columns and encrypted runs are compared with single gates, drift runs with encrypted ones;
-/// imported and exported circuits are run on plain bits.
+/// imported and exported circuits are run on plain bits, and a circuit's work is held against the rotations of its runs.
 fn declarations(group: &str) -> Vec<&str> {
     match group {
         "bristol" => vec!["circuit", "bristol"],
         "column" => vec!["gates", "column"],
-        "encrypted" => vec!["gates", "encrypted"],
-        "drift" => vec!["gates", "encrypted", "drift"],
+        "encrypted" => vec!["gates", "circuit", "encrypted"],
+        "drift" => vec!["gates", "circuit", "encrypted", "drift"],
         _ => vec![group],
     }
 }

@@ -3,6 +3,19 @@
 //! gates must give word for word.
 
 use crate::sizes::Sizes;
+use std::cell::Cell;
+
+thread_local! {
+    /// The blind rotations that this thread has performed.
+    static ROTATIONS: Cell<usize> = const { Cell::new(0) };
+}
+
+/// What a function gives, and how many blind rotations it performed.
+pub fn counting<T>(f: impl FnOnce() -> T) -> (T, usize) {
+    let before = ROTATIONS.get();
+    let given = f();
+    (given, ROTATIONS.get() - before)
+}
 
 pub type Pair = (Vec<u32>, Vec<u32>);
 
@@ -109,6 +122,7 @@ pub fn step(p: &[u32; 6], key: &[u32], i: usize, mask: u32, a: &[u32], b: &[u32]
 }
 
 pub fn blind_rotate(p: &[u32; 6], src: &[u32], key: &[u32]) -> Pair {
+    ROTATIONS.set(ROTATIONS.get() + 1);
     let s = Sizes::of(p);
     let k = body_amount(p, src[s.n]) as usize;
     let mut at = (rotated(&vec![0; s.ring], k), rotated(&vec![1 << 29; s.ring], k));

@@ -2,6 +2,7 @@
 
 use crate::circuits::Circuit;
 use crate::exact;
+use crate::sizes::Sizes;
 
 /// What kinds 3 to 12 run. Kind 8 runs xor and negates: the original's xnor is no xnor.
 pub const NAMES: [&str; 10] = ["and", "or", "nand", "nor", "xor", "xor", "and_ny", "and_yn", "or_ny", "or_yn"];
@@ -11,6 +12,8 @@ pub struct Run {
     pub wires: Vec<u32>,
     /// What each gate of kind 3 or more switched.
     pub samples: Vec<Vec<u32>>,
+    /// The blind rotations that were performed, counted where they are.
+    pub rotations: usize,
 }
 
 /// The ciphertext of wire w; empty where there is none, as for an operand that a kind does not need.
@@ -39,13 +42,22 @@ pub fn gate(p: &[u32; 6], switching: &[u32], bootstrapping: &[u32], kind: usize,
 }
 
 pub fn run(p: &[u32; 6], switching: &[u32], bootstrapping: &[u32], circuit: &Circuit, ins: &[u32]) -> Run {
-    let mut out = Run { wires: ins.to_vec(), samples: Vec::new() };
+    let mut out = Run { wires: ins.to_vec(), samples: Vec::new(), rotations: 0 };
     for (kind, operands) in &circuit.gates {
-        let (own, sample) = gate(p, switching, bootstrapping, *kind, operands.map(|w| cipher(p, &out.wires, w)));
+        let one = || gate(p, switching, bootstrapping, *kind, operands.map(|w| cipher(p, &out.wires, w)));
+        let ((own, sample), rotations) = exact::counting(one);
         out.wires.extend(own);
         out.samples.extend(sample);
+        out.rotations += rotations;
     }
     out
+}
+
+/// The work of a circuit, found by running it: how many blind rotations it takes, at the least parameters and on ciphertexts and keys of zeros.
+pub fn work(circuit: &Circuit) -> usize {
+    let p = [1; 6];
+    let s = Sizes::of(&p);
+    run(&p, &vec![0; s.switching()], &vec![0; s.bootstrapping()], circuit, &vec![0; circuit.inputs * (s.n + 1)]).rotations
 }
 
 /// The outputs' ciphertexts, from the wires'.

@@ -2,13 +2,25 @@
 //!   program RUNS COMMAND.. [@]   RUNS random circuits beside the chosen ones; the command runs the program, which is lent the bytes on standard input, in
 //!                                one piece and in parts, or in a file whose name stands in the place of @
 //! The chosen ones are where its buffers end: the longest circuit, bytes behind it, no byte at all, the longest text.
+//!   program cases                prints the texts of the circuits that the program egl_cases makes
 
 #[allow(dead_code)]
 #[path = "../driver/circuits.rs"]
 mod circuits;
 #[allow(dead_code)]
+#[path = "../driver/exact.rs"]
+mod exact;
+#[allow(dead_code)]
+#[path = "../driver/exact_run.rs"]
+mod exact_run;
+#[allow(dead_code)]
+#[path = "../driver/sizes.rs"]
+mod sizes;
+#[allow(dead_code)]
 #[path = "../driver/source.rs"]
 mod source;
+
+mod cases;
 
 use circuits::{damage, read, run_plain, valid, Circuit, KINDS};
 use source::Source;
@@ -32,7 +44,7 @@ fn text(bytes: &[u8]) -> String {
     match read(bytes) {
         Err((number, place)) => format!("refused {number} at {place}\n"),
         Ok(c) => {
-            let work = c.gates.iter().filter(|g| g.0 >= 3).count();
+            let work = exact_run::work(&c);
             format!("EGL 1 inputs {} gates {} outputs {} work {work}\n{}", c.inputs, c.gates.len(), c.outputs.len(), table(&c))
         }
     }
@@ -98,6 +110,7 @@ fn chosen(source: &mut Source) -> Vec<(&'static str, Vec<u8>)> {
         ("no wire", valid(source, KINDS, 0, 0, 1)),
         ("4 inputs, no gates", valid(source, KINDS, 4, 0, 64)),
         ("4 inputs", valid(source, KINDS, 4, 40, 5)),
+        ("muxes alone, the most work", cases::circuit(Some(13), 4, 1024, 64)),
         ("5 inputs", valid(source, KINDS, 5, 40, 5)),
         ("256 inputs, no gates", valid(source, KINDS, 256, 0, 1)),
         ("refusal 6", changed(0, 0)),
@@ -110,6 +123,10 @@ fn chosen(source: &mut Source) -> Vec<(&'static str, Vec<u8>)> {
 
 fn main() {
     let args: Vec<String> = std::env::args().skip(1).collect();
+    if args == ["cases"] {
+        cases::all().iter().for_each(|bytes| print!("{}", text(bytes)));
+        return;
+    }
     let (Some(runs), Some(command)) = (args.first().and_then(|n| n.parse::<usize>().ok()), args.get(1..).filter(|c| !c.is_empty())) else {
         eprintln!("program RUNS COMMAND..");
         exit(2)

@@ -53,15 +53,16 @@ fn run(set: sets::Set, file: Option<&str>) -> Result<usize, Box<dyn Error>> {
     let secret = SecretKeys::draw(set.params, &mut random)?;
     let cloud = OwnedCloudKey::draw(&secret, set.noise, &mut random)?;
     let rows = rows(circuit.inputs(), &mut random)?;
-    let mut line = progress::Line::start("gates", rows.len() * circuit.gates());
+    let work = circuit.work()? as usize;
+    let mut line = progress::Line::start("rotations", rows.len() * work);
     let (mut done, mut wrong, mut all) = (0, 0, 0);
     println!("inputs: meant, got");
     for bits in rows {
         let meant = circuit.run_plain(&bits)?;
         let ins = secret.encrypt_bits(&bits, set.noise, &mut random)?;
-        let out = Run::start(&circuit, cloud.view(), &ins)?.finish(|p| line.at(done + p.done, "evaluating"))?;
+        let out = Run::start(&circuit, cloud.view(), &ins)?.finish(|p| line.at(done + circuit.work_to(p.done) as usize, "evaluating"))?;
         let got = secret.decrypt_bits(&out)?;
-        done += circuit.gates();
+        done += work;
         all += meant.len();
         wrong += meant.iter().zip(&got).filter(|(meant, got)| meant != got).count();
         line.clear();

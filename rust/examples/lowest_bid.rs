@@ -1,5 +1,5 @@
 //! Two sealed bids: finds the lower price without opening either. Builds the comparator, encrypts both prices, runs the circuit gate by gate with
-//! progress, decrypts which bid is lower and the lower price, and holds them to the plain numbers. The status is 1 if they differ.
+//! progress over its rotations, decrypts which bid is lower and the lower price, and holds them to the plain numbers. The status is 1 if they differ.
 //!
 //!     lowest_bid [FIRST SECOND [SET [drift]]]
 //!
@@ -9,7 +9,7 @@
 
 mod progress;
 
-use egl::{margin, sets, Builder, Circuit, CloudKey, DriftRun, GateDrift, Kind, OwnedCloudKey, Refusal, Run, SecretKeys, SystemRandom};
+use egl::{archive_version, margin, sets, Builder, Circuit, CloudKey, DriftRun, GateDrift, Kind, OwnedCloudKey, Refusal, Run, SecretKeys, SystemRandom, INTERFACE_VERSION};
 use std::error::Error;
 use std::process::exit;
 
@@ -44,8 +44,8 @@ fn price(bits: &[bool]) -> u8 {
 
 /// The outputs of a run gate by gate.
 fn compared(circuit: &Circuit, key: CloudKey<'_>, ins: &[u32]) -> Result<Vec<u32>, Refusal> {
-    let mut line = progress::Line::start("gates", circuit.gates());
-    let out = Run::start(circuit, key, ins)?.finish(|p| line.at(p.done, "comparing"))?;
+    let mut line = progress::Line::start("rotations", circuit.work()? as usize);
+    let out = Run::start(circuit, key, ins)?.finish(|p| line.at(circuit.work_to(p.done) as usize, "comparing"))?;
     line.clear();
     Ok(out)
 }
@@ -62,11 +62,11 @@ fn told(circuit: &Circuit, gate: GateDrift) -> String {
 
 /// The same with drift: the outputs, or nothing where a drift is outside.
 fn measured(circuit: &Circuit, key: CloudKey<'_>, secret: &SecretKeys, ins: &[u32], bits: &[bool]) -> Result<Option<Vec<u32>>, Refusal> {
-    let mut line = progress::Line::start("gates", circuit.gates());
+    let mut line = progress::Line::start("rotations", circuit.work()? as usize);
     let run = DriftRun::start(circuit, key, secret, ins, bits)?.finish(|gate| {
         line.clear();
         println!("{}", told(circuit, gate));
-        line.at(gate.progress.done, "comparing");
+        line.at(circuit.work_to(gate.progress.done) as usize, "comparing");
     })?;
     line.clear();
     let all = run.inside() == Some(true);
@@ -76,6 +76,9 @@ fn measured(circuit: &Circuit, key: CloudKey<'_>, secret: &SecretKeys, ins: &[u3
 }
 
 fn run(first: u8, second: u8, set: sets::Set, drift: bool) -> Result<bool, Box<dyn Error>> {
+    if archive_version() != INTERFACE_VERSION {
+        return Err(format!("the archive has version {} of the interface, and this program is written for {INTERFACE_VERSION}", archive_version()).into());
+    }
     let circuit = comparator()?;
     println!("circuit: {} inputs, {} gates, work {}", circuit.inputs(), circuit.gates(), circuit.work()?);
     let bits: Vec<bool> = low_bit_first(first).chain(low_bit_first(second)).collect();

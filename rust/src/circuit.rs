@@ -68,9 +68,16 @@ impl Circuit {
         self.bytes.get(g.saturating_mul(8).saturating_add(HEAD)).and_then(|number| Kind::from_number(*number))
     }
 
-    /// The work: one for each gate of kind 3 or more.
+    /// The work: the number of blind rotations of its encrypted run, one for each two-input gate and two for a mux, so that the work times the time of a two-input gate is about what
+    /// a run takes. Up to version 3 of the interface a mux counted one ([`archive_version`](crate::archive_version)).
     pub fn work(&self) -> Result<u32, Refusal> {
         Circuit::work_of(&self.bytes)
+    }
+
+    /// The work of its first gates, so many (of all, where it has no more): how much of [`work`](Circuit::work) is done when a run tells that these are. Whoever shows how long a
+    /// run has still to go counts so, and not by gates.
+    pub fn work_to(&self, gates: usize) -> u32 {
+        (0..gates.min(self.gates)).filter_map(|g| self.kind(g)).fold(0, |sum, kind| sum.saturating_add(kind.rotations() as u32))
     }
 
     /// The work of bytes that may be a circuit. Refusals 6 to 10 with the place of the field at fault.

@@ -11,6 +11,7 @@ use crate::Params;
 
 #[rustfmt::skip]
 extern "C" {
+    fn egl_version() -> u32;
     fn egl_params_check(n: u32, nbit: u32, bgbit: u32, l: u32, basebit: u32, t: u32) -> u64;
 
     fn egl_tlwe_encrypt_bit_lv0(n: u32, nbit: u32, bgbit: u32, l: u32, basebit: u32, t: u32, bit: u32, masks: *const u32, masks_len: usize, noise: u32, key: *const u32, key_len: usize, out: *mut u32, out_len: usize) -> u64;
@@ -140,6 +141,12 @@ safe! {
     drift_run = egl_drift_run(key: cloud, level0: words, level1: words, circuit: bytes, ins: words, plain: bytes, wires: written, out: written, drifts: written);
     drift_gate = egl_drift_gate(key: cloud, level0: words, level1: words, circuit: bytes, gate: usize, wires: written, drifts: written);
     fresh_drift = egl_fresh_drift(key: words, ciphertext: words, plain: u8);
+}
+
+/// The version of the archive's interface.
+pub(crate) fn version() -> u32 {
+    // SAFETY: nothing crosses but the number that is given.
+    unsafe { egl_version() }
 }
 
 /// Whether a drift is below an eighth of a turn in absolute value.

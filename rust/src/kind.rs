@@ -73,7 +73,7 @@ impl Kind {
         }
     }
 
-    /// How many blind rotations an encrypted run makes for it: 0 to 2.
+    /// How many blind rotations an encrypted run makes for it, which is its work: 0 to 2, two for a mux.
     pub fn rotations(self) -> usize {
         match self {
             Kind::False | Kind::True | Kind::Not => 0,

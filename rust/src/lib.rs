@@ -3,8 +3,8 @@
 //! The archive does the work and is proved: every call takes any numbers and any slices, does its work or gives one of twelve numbered
 //! refusals, and a refused call has written to none of the memory lent to it. This crate turns lengths and pointers into slices, numbers into
 //! [`Refusal`], and adds what the archive leaves to its caller: memory, random numbers and noise. What it adds is ordinary Rust and not
-//! proved: [`Random`], [`Noise`] and the drawing of keys, [`Builder`], the order in which [`Circuit`] and its runner lend slices, and how
-//! [`CloudKey::column_in_threads`] cuts a column.
+//! proved: [`Random`], [`Noise`] and the drawing of keys, [`Builder`], the order in which [`Circuit`] and its runner lend slices, how
+//! [`CloudKey::column_in_threads`] cuts a column, and what [`Kind`] and [`Gate`] tell of themselves, [`Circuit::work_to`] by it.
 //!
 //! Two ways to call:
 //!
@@ -76,6 +76,7 @@ mod refusal;
 mod run;
 mod secret;
 pub mod sets;
+mod version;
 
 pub use builder::{Builder, Wire};
 pub use circuit::Circuit;
@@ -91,3 +92,4 @@ pub use random::{Random, SystemRandom};
 pub use refusal::Refusal;
 pub use run::{Progress, Run};
 pub use secret::SecretKeys;
+pub use version::{archive_version, INTERFACE_VERSION};

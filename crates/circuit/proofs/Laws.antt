@@ -6,7 +6,7 @@ use mathlib.Core.Path.{_≡_, refl, sym, ap, _∙_}
 use mathlib.Core.Logic.{⊎-elim}
 use mathlib.Core.Bool.{Bool, true, false}
 use mathlib.Core.List.{List, []}
-use Prim.Native.Nat.{ℕ, zero, suc, _+_, _-_, _≤_, _<_}
+use Prim.Native.Nat.{ℕ, zero, suc, _+_, _*_, _-_, _≤_, _<_}
 use native.Mathlib.Nat.{eq-zero-or-pos}
 use native.Mathlib.Omega.{arith}
 use lib.Dec.{leb, leb→le, lit<, lit≤}
@@ -119,14 +119,14 @@ run-writes bs ins out r = when-done _ _ _ (ap (λ (a : Answer). a .number) (run-
 
 -- ---- work
 
--- a valid circuit's work is at most one a gate
-pub work-to : (bs : List ℕ) → Valid bs → workOf bs ≤ gates bs
+-- a valid circuit's work is at most two a gate
+pub work-to : (bs : List ℕ) → Valid bs → workOf bs ≤ 2 * gates bs
 unfolding workOf sumTo
-work-to bs v = go (gates bs) (λ g l. at-most-one g (v .every-gate g l .kind-to))
+work-to bs v = go (gates bs) (λ g l. at-most-two g (v .every-gate g l .kind-to))
   where
-    at-most-one : (g : ℕ) → kindAt bs g ≤ 13 → kindOf (kindAt bs g) .work ≤ 1
-    at-most-one g h = let e = work-entry (kindAt bs g) h in omega arith
+    at-most-two : (g : ℕ) → kindAt bs g ≤ 13 → kindOf (kindAt bs g) .work ≤ 2
+    at-most-two g h = let e = work-entry (kindAt bs g) h in omega arith
 
-    go : (n : ℕ) → ((g : ℕ) → g < n → kindOf (kindAt bs g) .work ≤ 1) → sumTo n (λ g. kindOf (kindAt bs g) .work) ≤ n
+    go : (n : ℕ) → ((g : ℕ) → g < n → kindOf (kindAt bs g) .work ≤ 2) → sumTo n (λ g. kindOf (kindAt bs g) .work) ≤ 2 * n
     go zero h = lit≤ tt
     go (suc n) h = let i = go n (λ g l. h g (omega arith)) in let o = h n (omega arith) in omega arith

@@ -1,4 +1,4 @@
--- The plain meaning of a circuit and its work (01, 'Circuits').
+-- The plain meaning of a circuit and its work (01, 'Circuits'; 02, 2026-03).
 use mathlib.Core.List.{List, [], _∷_, _++_}
 use Prim.Native.Nat.{ℕ, zero, suc, _+_}
 use lib.Dec.{eqb}
@@ -43,7 +43,7 @@ runOut bs ins out = ifDone (runAnswer bs (length ins) (length out) .number) (out
 
 -- ---- work
 
--- The work of a circuit's gates.
+-- The work of a circuit's gates: how many blind rotations its encrypted run performs (`work-rotates` of crates/encrypted_run/proofs/Work.antt).
 unfoldable pub workOf : List ℕ → ℕ
 workOf bs = sumTo (gates bs) (λ g. kindOf (kindAt bs g) .work)
 

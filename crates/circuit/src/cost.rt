@@ -1,4 +1,4 @@
-// The work of a circuit: one for each gate that needs a rotation (01, 'Circuits').
+// The work of a circuit: one for each blind rotation that its gates cost, so two for a mux (01, 'Circuits'; 02, 2026-03).
 use crate::Worked;
 use crate::fields::byte;
 use crate::fields::field;

@@ -12,6 +12,7 @@ pub mod Parts
 pub mod Suffice
 pub mod Lists
 pub mod Demand
+pub mod Counted
 pub mod Examples
 pub mod CircuitExamples
 pub mod Worst

@@ -30,7 +30,7 @@ pub extern "C" fn egl_circuit_counts(bytes: &[u8], out: &mut [u32]) -> u64
     pack(circuit::tell(bytes, out))
 }
 
-// The work of a circuit, as the value; of a refused one the number and the place.
+// The work of a circuit, its run's blind rotations, as the value; of a refused one the number and the place.
 #[no_mangle]
 pub extern "C" fn egl_circuit_work(bytes: &[u8]) -> u64
     ensures { λ r. ⌜ r ≡ ifDone (workAnswer (now (bytes .entry)) .answer .number) (packedWith (workAnswer (now (bytes .entry)) .answer) (workAnswer (now (bytes .entry)) .value)) (packed (workAnswer (now (bytes .entry)) .answer)) ⌝ }

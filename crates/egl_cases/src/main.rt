@@ -1,6 +1,6 @@
 // The texts of many circuits, good and bad, one after the other: circuits made by a rule, 01's example and the largest among them, with a byte
-// changed or the length cut. The expected output was made by an evaluator written from document 01 alone, in another language, with the same
-// rule.
+// changed or the length cut, and circuits of muxes alone. The expected output is made by the harness, which reads and evaluates circuits by document 01 alone, has the
+// same rule, and counts the work by running (oracle/program).
 use libc::STDOUT_FILENO;
 ghost use Prim.Native.Nat.{_≤_, _<_};
 
@@ -36,12 +36,16 @@ fn put_head(out: &mut [u8], inputs: usize, gates: usize, outputs: usize) {
     put_field(out, 9, outputs);
 }
 
-// The kind of gate g, whose own wire is own: nand first, then the next kinds in turn; true where there is no wire yet.
-fn kind_of(own: usize, g: usize) -> u8
+// The kind of gate g, whose own wire is own: true where there is no wire yet, else the one kind that is asked for, or, where that is none of a circuit's, nand
+// first and then the next kinds in turn.
+fn kind_of(only: u8, own: usize, g: usize) -> u8
     requires { ⌜ g < 65536 ⌝ }
 {
     if own == 0 {
         return 1;
+    }
+    if only < 14 {
+        return only;
     }
     ((g + 5) % 14) as u8
 }
@@ -69,11 +73,11 @@ fn operand(kind: u8, x: u8, wire: usize) -> usize {
 }
 
 // Gate g: its operands are the wire at a third of its own, the wire before it, and the wire at half of it.
-fn put_gate(out: &mut [u8], own: usize, g: usize)
+fn put_gate(out: &mut [u8], only: u8, own: usize, g: usize)
     requires { ⌜ (own < 8000) × (g < 8000) ⌝ }
 {
     let at = 11 + 8 * g;
-    let kind = kind_of(own, g);
+    let kind = kind_of(only, own, g);
     let before = if 0 < own { own - 1 } else { 0 };
     put(out, at, kind);
     put_field(out, at + 2, operand(kind, 0, own / 3));
@@ -82,12 +86,12 @@ fn put_gate(out: &mut [u8], own: usize, g: usize)
 }
 
 // All gates.
-fn put_gates(out: &mut [u8], inputs: usize, gates: usize)
+fn put_gates(out: &mut [u8], only: u8, inputs: usize, gates: usize)
     requires { ⌜ (inputs ≤ 300) × (gates ≤ 1100) ⌝ }
 {
     let mut g = 0;
     while g < gates {
-        put_gate(out, inputs + g, g);
+        put_gate(out, only, inputs + g, g);
         g += 1;
     }
 }
@@ -107,16 +111,31 @@ fn put_outputs(out: &mut [u8], wires: usize, gates: usize, outputs: usize)
     }
 }
 
-// The circuit of these counts with the byte at a place changed, and of it so many bytes.
-fn case(inputs: usize, gates: usize, outputs: usize, place: usize, value: u8, count: usize)
+// The circuit of these counts, its gates of one kind or of all, with the byte at a place changed, and of it so many bytes.
+fn case_of(
+    only: u8,
+    inputs: usize,
+    gates: usize,
+    outputs: usize,
+    place: usize,
+    value: u8,
+    count: usize,
+)
     requires { ⌜ (inputs ≤ 300) × (gates ≤ 1100) × (outputs ≤ 100) × (count ≤ 9000) ⌝ }
 {
     let mut bytes = [0u8; 9000];
     put_head(&mut bytes, inputs, gates, outputs);
-    put_gates(&mut bytes, inputs, gates);
+    put_gates(&mut bytes, only, inputs, gates);
     put_outputs(&mut bytes, inputs + gates, gates, outputs);
     put(&mut bytes, place, value);
     show(&bytes[..count]);
+}
+
+// The same with all kinds in turn.
+fn case(inputs: usize, gates: usize, outputs: usize, place: usize, value: u8, count: usize)
+    requires { ⌜ (inputs ≤ 300) × (gates ≤ 1100) × (outputs ≤ 100) × (count ≤ 9000) ⌝ }
+{
+    case_of(14, inputs, gates, outputs, place, value, count);
 }
 
 // 01's example, which the rule gives for these counts, with a byte changed.
@@ -200,6 +219,14 @@ fn tables() {
     case(256, 1024, 64, 9999, 0, 8332);
 }
 
+// Muxes alone: one, behind a constant, a few, and as many as there can be, whose work is the most that a circuit has.
+fn muxes() {
+    case_of(13, 3, 1, 1, 9999, 0, 21);
+    case_of(13, 0, 3, 1, 9999, 0, 37);
+    case_of(13, 4, 6, 2, 9999, 0, 63);
+    case_of(13, 256, 1024, 64, 9999, 0, 8331);
+}
+
 fn main() {
     lengths();
     marks();
@@ -208,4 +235,5 @@ fn main() {
     kinds();
     more_kinds();
     tables();
+    muxes();
 }

@@ -1,4 +1,5 @@
 pub mod Refusals
 pub mod Run
+pub mod Rotations
 pub mod Rows
 pub mod Private

@@ -51,17 +51,17 @@ operands-compared k h = sym (operand-entry k h .0) ∙ eqb→eq (getD operandTab
 -- ---- the column of work
 
 abbrev pub workTable : List ℕ
-workTable = 0 ∷ 0 ∷ 0 ∷ 1 ∷ 1 ∷ 1 ∷ 1 ∷ 1 ∷ 1 ∷ 1 ∷ 1 ∷ 1 ∷ 1 ∷ 1 ∷ []
+workTable = 0 ∷ 0 ∷ 0 ∷ 1 ∷ 1 ∷ 1 ∷ 1 ∷ 1 ∷ 1 ∷ 1 ∷ 1 ∷ 1 ∷ 1 ∷ 2 ∷ []
 
 work-right : ℕ → ℕ → Bool
-work-right k x = both (eqb x (kindOf k .work)) (leb x 1)
+work-right k x = both (eqb x (kindOf k .work)) (leb x 2)
 
-pub work-entry : (k : ℕ) → k ≤ 13 → (getD workTable k 0 ≡ kindOf k .work) × (getD workTable k 0 ≤ 1)
+pub work-entry : (k : ℕ) → k ≤ 13 → (getD workTable k 0 ≡ kindOf k .work) × (getD workTable k 0 ≤ 2)
 unfolding work-right kindOf kinds
 work-entry k h =
     let t = entry work-right workTable tt k (omega arith) in
     let x = getD workTable k 0 in
-    (eqb→eq x (kindOf k .work) (both-left (eqb x (kindOf k .work)) (leb x 1) t), leb→le x 1 (both-right (eqb x (kindOf k .work)) (leb x 1) t))
+    (eqb→eq x (kindOf k .work) (both-left (eqb x (kindOf k .work)) (leb x 2) t), leb→le x 2 (both-right (eqb x (kindOf k .work)) (leb x 2) t))
 
 -- ---- the column of meanings, a truth table in 8 bits
 

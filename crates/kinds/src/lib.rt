@@ -3,8 +3,8 @@ ghost use mathlib.Core.Path.{_≡_};
 ghost use Prim.Native.Nat.{_≤_};
 ghost use Rattle.kinds.specs.Kinds.{kindOf, bitMeaning};
 
-// The work of each kind.
-const WORK: [u32; 14] = [0, 0, 0, 1, 1, 1, 1, 1, 1, 1, 1, 1, 1, 1];
+// The work of each kind: its blind rotations. A mux has two (02, 2026-03).
+const WORK: [u32; 14] = [0, 0, 0, 1, 1, 1, 1, 1, 1, 1, 1, 1, 1, 2];
 
 // The truth table of each kind: bit a + 2b + 4c is the bit for operands a, b and c.
 const TRUTH: [u32; 14] = [
@@ -46,7 +46,7 @@ pub fn operands(kind: usize) -> usize
 // The work of a gate of this kind.
 pub fn work_of(kind: usize) -> u32
     ensures { λ r. ⌜ r ≡ kindOf kind .work ⌝ }
-    ensures { λ r. ⌜ r ≤ 1 ⌝ }
+    ensures { λ r. ⌜ r ≤ 2 ⌝ }
 {
     if 13 < kind {
         return 0;

@@ -129,5 +129,5 @@ length-counts bs h =
     let f = length-append (named eglWord (version bs) ++ named inputsWord (inputs bs)) (named gatesWord (gates bs)) in
     omega arith
 
-pub work-small : (bs : List ℕ) → Valid bs → workOf bs ≤ 1024
+pub work-small : (bs : List ℕ) → Valid bs → workOf bs ≤ 2048
 work-small bs v = let w = work-to bs v in let g = v .head .gates-to in omega arith

@@ -10,7 +10,7 @@ use Rattle.gate_sums.specs.declared.Kind.{Kind}
 use Rattle.gate_sums.specs.Sum.{constantOf}
 use Rattle.gates.specs.Gate.{bootstrapped, gated, muxed}
 use Rattle.ways.specs.declared.Way.the-variants.{Known, Negated, Gate, NegatedGate, Choice}
-use Rattle.ways.specs.Ways.{rotationsOf, rotationSum, samplesOf, made, ran}
+use Rattle.ways.specs.Ways.{rotationsOf, rotationSum, rotatedSums, made, ran}
 
 module _ (p : Params) (ksk bsk a b c : List ℕ) where
   pub ran-known : (bit : Bool) → ran p ksk bsk (Known bit) a b c ≡ constantOf p bit
@@ -22,13 +22,13 @@ module _ (p : Params) (ksk bsk a b c : List ℕ) where
   ran-negated = refl
 
   pub ran-gate : (kind : Kind) → ran p ksk bsk (Gate kind) a b c ≡ gated p kind ksk bsk a b
-  unfolding ran made samplesOf rotationsOf rotationSum bootstrapped
+  unfolding ran made rotatedSums rotationsOf rotationSum bootstrapped
   ran-gate kind = refl
 
   pub ran-negated-gate : (kind : Kind) → ran p ksk bsk (NegatedGate kind) a b c ≡ negative (p .n + 1) (gated p kind ksk bsk a b)
-  unfolding ran made samplesOf rotationsOf rotationSum bootstrapped
+  unfolding ran made rotatedSums rotationsOf rotationSum bootstrapped
   ran-negated-gate kind = refl
 
   pub ran-choice : ran p ksk bsk Choice a b c ≡ muxed p ksk bsk a b c
-  unfolding ran made samplesOf rotationsOf rotationSum muxed
+  unfolding ran made rotatedSums rotationsOf rotationSum muxed
   ran-choice = refl

@@ -49,13 +49,13 @@ rotationsOf Choice = record { kind = And; x = 0; y = 1 } ∷ record { kind = And
 unfoldable pub rotationSum : Params → List ℕ → List ℕ → List ℕ → Rotation → List ℕ
 rotationSum p a b c r = summed p (r .kind) (operand (r .x) a b c) (operand (r .y) a b c)
 
--- The samples of level 1 that a way's rotations leave, in order.
-unfoldable pub samplesOf : Params → List ℕ → Way → List ℕ → List ℕ → List ℕ → List (List ℕ)
-samplesOf p bsk way a b c = map (λ r. rotatedSample p bsk (rotationSum p a b c r)) (rotationsOf way)
+-- The sums that a way rotates, in order.
+unfoldable pub rotatedSums : Params → Way → List ℕ → List ℕ → List ℕ → List (List ℕ)
+rotatedSums p way a b c = map (rotationSum p a b c) (rotationsOf way)
 
 -- ---- what is made of it
 
--- The ciphertext of a way, from its samples alone; a negation rotates nothing and has its operand a.
+-- The ciphertext of a way, from the samples of level 1 that its rotations leave, in order; a negation rotates nothing and has its operand a.
 unfoldable pub made : Params → List ℕ → Way → List ℕ → List (List ℕ) → List ℕ
 made p ksk (Known bit) a samples = constantOf p bit
 made p ksk Negated a samples = negative (p .n + 1) a
@@ -63,6 +63,6 @@ made p ksk (Gate kind) a samples = switched p ksk (getD samples 0 [])
 made p ksk (NegatedGate kind) a samples = negative (p .n + 1) (switched p ksk (getD samples 0 []))
 made p ksk Choice a samples = switched p ksk (muxSum p (getD samples 0 []) (getD samples 1 []))
 
--- What a way gives from the ciphertexts a, b and c, of which it takes those that it needs.
+-- What a way gives from the ciphertexts a, b and c, of which it takes those that it needs. The bootstrapping key goes into its listed rotations and nowhere else.
 unfoldable pub ran : Params → List ℕ → List ℕ → Way → List ℕ → List ℕ → List ℕ → List ℕ
-ran p ksk bsk way a b c = made p ksk way a (samplesOf p bsk way a b c)
+ran p ksk bsk way a b c = made p ksk way a (map (rotatedSample p bsk) (rotatedSums p way a b c))

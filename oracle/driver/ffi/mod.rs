@@ -119,8 +119,8 @@ pub fn turn(arg: &Arg) -> f64 {
 
 #[cfg(group_bristol)]
 pub mod bristol;
-// imported and exported circuits are run on plain bits
-#[cfg(any(group_circuit, group_bristol))]
+// imported and exported circuits are run on plain bits, and the work is held against the rotations of encrypted runs and drift runs
+#[cfg(any(group_circuit, group_bristol, group_encrypted, group_drift))]
 pub mod circuit;
 #[cfg(group_column)]
 pub mod column;

@@ -1,9 +1,10 @@
-//! Circuits against an independent reader and evaluator: answer and place, counts, work, plain run;
-//! valid ones, damaged ones, every byte of small ones set to every value.
+//! Circuits against an independent reader and evaluator: answer and place, counts, work (the rotations of a run, counted by running), plain run;
+//! valid ones, damaged ones, every byte of small ones set to every value, muxes alone.
 
 use crate::case::{Arg, Set};
 use crate::circuits::{damage, read, run_plain, valid, KINDS};
 use crate::compare::Tally;
+use crate::exact_run;
 use crate::ffi::circuit::*;
 use crate::source::Source;
 
@@ -18,7 +19,7 @@ fn compare(tally: &mut Tally, source: &mut Source, bytes: &[u8]) {
     let got = egl_circuit_check(&mut [lent.clone()]);
     tally.same(got == want, || format!("check {}: {got:#x}, wanted {want:#x}", shown()));
 
-    let work = circuit.as_ref().map_or(0, |c| c.gates.iter().filter(|g| g.0 >= 3).count());
+    let work = circuit.as_ref().map_or(0, exact_run::work);
     let length = if source.below(4) == 0 { source.of(&[0, 4, 6, 10]) } else { 5 };
     let before: Vec<u32> = (0..length).map(|_| source.next() as u32).collect();
     let mut args = [lent.clone(), Arg::Words(before.clone())];
@@ -52,6 +53,18 @@ fn compare(tally: &mut Tally, source: &mut Source, bytes: &[u8]) {
     tally.same(same, || format!("plain run {}: {got:#x}, wanted {number:#x}", shown()));
 }
 
+/// Muxes alone, each of the wires before it: nothing else has as much work, two a gate.
+fn muxes(inputs: usize, gates: usize) -> Vec<u8> {
+    let mut bytes = b"EGL".to_vec();
+    let mut put = |x: usize| bytes.extend((x as u16).to_le_bytes());
+    [1, inputs, gates, 1].into_iter().for_each(&mut put);
+    for own in inputs..inputs + gates {
+        [13, own - 1, own / 2, own / 3].into_iter().for_each(&mut put);
+    }
+    put(inputs + gates - 1);
+    bytes
+}
+
 /// Document 01's circuit.
 const NAND: [u8; 21] = [0x45, 0x47, 0x4C, 1, 0, 2, 0, 1, 0, 1, 0, 5, 0, 0, 0, 1, 0, 0, 0, 2, 0];
 
@@ -73,6 +86,18 @@ pub fn run(_sets: &[Set], tally: &mut Tally) {
         let bytes = valid(&mut source, KINDS, i, g, o);
         compare(tally, &mut source, &bytes);
         compare(tally, &mut source, &[bytes.as_slice(), &[0]].concat());
+    }
+    for (inputs, gates) in [(1, 1), (3, 1), (2, 7), (256, 1024)] {
+        compare(tally, &mut source, &muxes(inputs, gates));
+    }
+    // work from some hundreds up to the most
+    for _ in 0..300 {
+        let gates = 100 + source.below(925) as usize;
+        let bytes = match source.below(2) {
+            0 => muxes(1 + source.below(256) as usize, gates),
+            _ => valid(&mut source, KINDS, 3, gates, 1),
+        };
+        compare(tally, &mut source, &bytes);
     }
     for (at, most) in [(5, 256), (7, 1024), (9, 64)] {
         for count in [0, 1, most - 1, most, most + 1, 65535usize] {

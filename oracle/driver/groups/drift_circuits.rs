@@ -11,6 +11,7 @@ use crate::honest::{Keys, Spread};
 use crate::reckoned_run::{self, phases_tell_bits, short_way, words, Run};
 use crate::reckoning::{inside, word, Reckoner};
 use crate::source::Source;
+use super::work::rotations_are;
 
 /// Circuits that share their keys.
 const LOT: usize = 8;
@@ -118,6 +119,9 @@ fn compare(tally: &mut Tally, source: &mut Source, keys: &Keys, r: &Reckoner, tr
     let encrypted = egl_circuit_run_encrypted(p, &mut plain);
     let same = encrypted == 0 && plain[4].w() == args[7].w() && plain[5].w() == args[8].w();
     tally.same(same, || format!("drift run at {p:?}: other words than the encrypted run's"));
+
+    // as many drifts are brought in as there are rotations
+    rotations_are(tally, &tried.bytes, model.gates.iter().map(|g| g.brought.len()).sum());
 
     let told = answer == 1 << 32;
     tally.remark(match (told, model.gates.iter().all(|g| g.brought.is_empty())) {

@@ -1,5 +1,6 @@
 //! Encrypted runs of circuits. Every wire and output word for word against the exact steps, beside the library's single gates and its
-//! run gate by gate; with other key rows where no gate looks; with honest keys by decrypted bits.
+//! run gate by gate; with other key rows where no gate looks; with honest keys by decrypted bits. The work that the library tells of the circuit against
+//! the blind rotations that the exact steps performed.
 
 use crate::case::{Arg, Routine, Set, Slot};
 use crate::circuits::{plain_wires, read, run_plain, valid, Circuit, KINDS};
@@ -13,6 +14,7 @@ use crate::junk;
 use crate::sizes::Sizes;
 use crate::source::Source;
 use super::gates::{self, BOOTSTRAPPING, SWITCHING};
+use super::work::rotations_are;
 
 const WIRES: Slot = Slot::CiphersOut(Circuit::wires);
 
@@ -142,6 +144,7 @@ fn compare(tally: &mut Tally, source: &mut Source, keys: &Keys, bytes: &[u8], in
         tally.same_words(cipher(p, &wires, own), cipher(p, &model.wires, own), || format!("run at {p:?}: gate {g} of kind {kind} differs"));
     }
     tally.same_words(&out, &meant, || format!("run at {p:?}: outputs differ"));
+    rotations_are(tally, bytes, model.rotations);
 
     single_gates(tally, keys, &circuit, &model.wires);
     gate_by_gate(tally, source, keys, bytes, &circuit, &model.wires);

@@ -35,6 +35,9 @@ pub mod trgsw;
 pub mod trlwe;
 #[cfg(group_utils)]
 pub mod utils;
+// encrypted runs and drift runs count their rotations
+#[cfg(any(group_encrypted, group_drift))]
+mod work;
 
 use crate::case::{Routine, Set};
 use crate::compare::Tally;

@@ -1,7 +1,10 @@
-//! The plain run gives what the kinds' meanings give, and the work counts kinds from 3.
+//! The plain run gives what the kinds' meanings give, and the work counts the blind rotations of each kind.
 
 use crate::seeded::{circuit, expected, Seeded};
 use egl::{Builder, Circuit, Kind};
+
+/// The work of each kind, by its number: a mux rotates twice.
+const WORK: [u32; 14] = [0, 0, 0, 1, 1, 1, 1, 1, 1, 1, 1, 1, 1, 2];
 
 #[test]
 fn each_kind_has_its_meaning() {
@@ -15,7 +18,8 @@ fn each_kind_has_its_meaning() {
             let [a, b, c] = [row & 1 != 0, row & 2 != 0, row & 4 != 0];
             assert_eq!(circuit.run_plain(&[a, b, c]), Ok(vec![kind.meaning(a, b, c)]), "{kind:?}");
         }
-        assert_eq!(circuit.work(), Ok(u32::from(kind.number() >= 3)));
+        assert_eq!(circuit.work(), Ok(WORK[usize::from(kind.number())]), "{kind:?}");
+        assert_eq!(circuit.work(), Ok(kind.rotations() as u32), "{kind:?}");
         assert_eq!(Kind::from_number(kind.number()), Some(kind));
     }
     assert_eq!(Kind::from_number(14), None);
@@ -28,8 +32,11 @@ fn plain_runs_of_random_circuits() {
         let (inputs, gates, outputs) = (seeded.below(20), 1 + seeded.below(60), 1 + seeded.below(8));
         let (circuit, listed, outs) = circuit(&mut seeded, inputs, gates, outputs);
         assert_eq!((circuit.inputs(), circuit.gates(), circuit.outputs()), (inputs, gates, outs.as_slice()));
-        let work = listed.iter().filter(|(kind, _)| kind.number() >= 3).count();
-        assert_eq!(circuit.work(), Ok(work as u32));
+        let work = listed.iter().map(|(kind, _)| WORK[usize::from(kind.number())]).sum();
+        assert_eq!(circuit.work(), Ok(work));
+        let sums: Vec<u32> = (0..=gates).map(|g| listed[..g].iter().map(|(kind, _)| WORK[usize::from(kind.number())]).sum()).collect();
+        assert_eq!((0..=gates).map(|g| circuit.work_to(g)).collect::<Vec<_>>(), sums);
+        assert_eq!((circuit.work_to(gates + 1), circuit.work_to(usize::MAX)), (work, work));
         for _ in 0..5 {
             let ins = seeded.bits(inputs);
             assert_eq!(circuit.run_plain(&ins), Ok(expected(&listed, &outs, &ins)));

@@ -12,3 +12,4 @@ mod noise;
 mod refusals;
 mod seeded;
 mod sets;
+mod version;

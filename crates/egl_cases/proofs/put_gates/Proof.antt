@@ -8,10 +8,10 @@ use Rattle.egl_cases.proofs.put_gates.Statement.{statement}
 use Rattle.egl_cases.proofs.put_gates.Tie as tie
 
 abbrev Inv-loop : tie.InvT-loop
-Inv-loop out₀ inputs gates g₀ out g = (g ≤ gates) × (length out ≡ length out₀)
+Inv-loop out₀ only inputs gates g₀ out g = (g ≤ gates) × (length out ≡ length out₀)
 
 abbrev μ-loop : tie.MeasureT-loop
-μ-loop out₀ inputs gates g₀ out g = gates - g
+μ-loop out₀ only inputs gates g₀ out g = gates - g
 
 loop-holds : tie.Need-loop-holds Inv-loop μ-loop
 loop-holds c = (omega arith, refl)

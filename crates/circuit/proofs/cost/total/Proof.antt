@@ -1,7 +1,7 @@
--- `circuit::cost::total` meets its contract. The loop's invariant: the sum is that over the gates passed, and each adds at most one.
+-- `circuit::cost::total` meets its contract. The loop's invariant: the sum is that over the gates passed, and each adds at most two.
 -- Assumes nothing.
 use mathlib.Core.Path.{_≡_, refl, sym, ap, _∙_}
-use Prim.Native.Nat.{ℕ, _≤_, _-_}
+use Prim.Native.Nat.{ℕ, _*_, _≤_, _-_}
 use native.Mathlib.Omega.{arith}
 use lib.Dec.{lit<}
 use denote.Ref.{now}
@@ -14,7 +14,7 @@ use Rattle.circuit.proofs.cost.total.Statement.{statement}
 use Rattle.circuit.proofs.cost.total.Tie as tie
 
 abbrev Inv-loop : tie.InvT-loop
-Inv-loop bytes n sum₀ g₀ sum g = (g ≤ n) × (sum ≤ g) × (sum ≡ sumTo g (λ i. kindOf (kindAt bytes i) .work))
+Inv-loop bytes n sum₀ g₀ sum g = (g ≤ n) × (sum ≤ 2 * g) × (sum ≡ sumTo g (λ i. kindOf (kindAt bytes i) .work))
 
 abbrev μ-loop : tie.MeasureT-loop
 μ-loop bytes n sum₀ g₀ sum g = n - g

@@ -7,6 +7,12 @@ use borrow.Author.Needs.{needs}
 use Rattle.encrypted_run.proofs.steps.run_into.Statement.{statement}
 use Rattle.encrypted_run.proofs.steps.run_into.Tie as tie
 
+-- copying keeps the length of the wires' slice, so the gates find it as long as it was
+all-into-requires : tie.Need-all-into-requires
+all-into-requires c κs =
+    let good = c .before .before .before .before .before .before .before .before .before .before .before .pre .step in
+    record { keys = good .keys; valid = good .valid; wires-length = c .before .before .before .copy .kept .1 .0 ∙ good .wires-length }
+
 returns : tie.Need-returns
 returns c =
     let s = c .before .before .before .before .before .before .before .before .before .before .before .before .before .before .before .before .before .before .before in
@@ -17,4 +23,4 @@ returns c =
 pub run-into-spec : {M : Type 1} → statement M
 run-into-spec =
     tie.close
-    (tie.spec (λ c κs. search needs) (λ c κs. search needs) (λ c κs. search needs) (λ c. search needs) (λ c. search needs) returns)
+    (tie.spec (λ c κs. search needs) all-into-requires (λ c κs. search needs) (λ c. search needs) (λ c. search needs) returns)

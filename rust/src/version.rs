@@ -1,0 +1,12 @@
+//! Which interface: that which the crate is written for, and the archive's own.
+
+use crate::ffi;
+
+/// The version of the interface that this crate is written for, `EGL_VERSION` of its header.
+pub const INTERFACE_VERSION: u32 = 4;
+
+/// The version of the interface that the linked archive has. Where it is not [`INTERFACE_VERSION`], crate and archive do not belong together: up to version 3, for one, a mux
+/// counted one in [`Circuit::work`](crate::Circuit::work).
+pub fn archive_version() -> u32 {
+    ffi::version()
+}
