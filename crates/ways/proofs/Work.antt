@@ -1,5 +1,5 @@
 -- A kind's work is the number of rotations that its way performs, for every number, the table's or not: tested over the table, and past its end both are 0. A
--- way's ciphertext depends on the bootstrapping key through these rotations alone, since it is made of their samples; and none of them is idle, which is tested over the table too.
+-- way's ciphertext depends on the bootstrapping key through these rotations alone, since it is made of their samples; and none of them is idle at n 1 and N 2, which is tested over the table too.
 -- Assumes nothing.
 use mathlib.Core.Path.{_≡_, refl, sym, ap, subst, _∙_}
 use mathlib.Core.Bool.{Bool, true, false, not}
@@ -94,7 +94,8 @@ differ-at k (suc n) t i h e =
     not-same : (x y : ℕ) → T (not (eqb x y)) → x ≡ y → ⊥
     not-same x y t e = subst (λ (b : Bool). T (not b)) (eq-eqb x y e) t
 
--- every rotation that the work counts goes into the ciphertext: where its sample differs in the last word alone, so does the ciphertext. So no list is longer than what is made of it
+-- Of every kind each sample that the work counts goes into the ciphertext: there are two lists of samples, at n 1 and N 2 and with no switching key, that differ in that sample's last
+-- word alone, and the ciphertexts differ. `made` takes the same samples at all parameters, so a list that is filled up with idle rotations is noticed; a law over all parameters this is not.
 pub none-idle : (k i : ℕ) → k ≤ 13 → i < kindOf k .work → lastWord k i 0 ≡ lastWord k i 1 → ⊥
 unfolding differs lastWord made wayOf ways kindOf kinds switched maskRows usedRow maskField rounded rounding muxSum constantOf negative trivial total minus plus sumTo tab neg fieldOf Q
 none-idle k i h l = differ-at k (kindOf k .work) (subst (λ (n : ℕ). T (differs k n)) (work-entry k h .0) (entry differs workTable tt k (omega arith))) i l
