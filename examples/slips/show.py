@@ -203,6 +203,15 @@ def offset_power():
     beside(*('%s   digits %s' % (word(x), digits(SET_128, 0, x)) for x in (offset(SET_128), offset(SET_128, 32))))
 
 
+@slip('offset-divided-first')
+def offset_divided_first():
+    p = SET_128
+    power, fields, field = 2**(31 + p.bgbit - p.l * p.bgbit), 2**(p.l * p.bgbit) - 1, 2**p.bgbit - 1
+    print('BGBIT %d, L %d, remainders by %d: of %d it is %d, of %d it is %d' % (p.bgbit, p.l, field, fields, fields % field, power, power % field))
+    print('the offset, and the digits of 0 that it gives')
+    beside(*('%s   digits %s' % (word(x), digits(p, 0, x)) for x in (offset(p), power // field * fields)))
+
+
 @slip('ones-from-z0')
 def ones_from_z0():
     z, a, b = [1, 0], [0, 0], [0, 0]

@@ -6,6 +6,7 @@ mod archive;
 mod bridge;
 mod declared;
 mod interface;
+mod offsets;
 mod rules;
 
 use rules::Set;
@@ -203,14 +204,24 @@ fn originals(o: &Options, sets: &[Set], out: &Path, common: &str) -> String {
     texts.into_inner().unwrap().concat()
 }
 
-/// The list of sets as the driver reads it.
+/// The original's loop for the offset, for every BGBIT and L in range.
+fn loops(o: &Options, out: &Path) -> String {
+    let dir = out.join("offsets");
+    let text = offsets::write(&o.original, &dir).unwrap_or_else(|e| fail(&e));
+    let args = ["--crate-type", "rlib", "--crate-name", "offsets", "-C", "opt-level=2", "--cap-lints", "allow", &dir.join("lib.rs").to_string_lossy()].map(String::from);
+    compile(&out.join("liboffsets.rlib"), &text, &args);
+    text
+}
+
+/// The list of sets as the driver reads it, and the original's offset, where it is given.
 fn list(sets: &[Set], given: bool) -> String {
     let mut text = String::from("pub fn sets() -> Vec<crate::case::Set> {\n    vec![\n");
     for s in sets {
         let original = if given { format!("Some(&set_{}::adapter::SET)", s.name) } else { "None".into() };
         text.push_str(&format!("        crate::case::Set {{ name: {:?}, p: {:?}, original: {original} }},\n", s.name, s.p));
     }
-    text + "    ]\n}\n"
+    let offset = if given { "offsets::offset(bgbit, l)" } else { "None" };
+    text + &format!("    ]\n}}\npub fn original_offset(bgbit: u32, l: u32) -> Option<u32> {{\n    {offset}\n}}\n")
 }
 
 fn main() {
@@ -227,6 +238,7 @@ fn main() {
     if given {
         let common = text.clone();
         text.push_str(&originals(&o, &sets, &out, &common));
+        text.push_str(&loops(&o, &out));
     } else {
         println!("The original is not at {}: the comparison with it is left out.", o.original.display());
     }
@@ -246,6 +258,9 @@ fn main() {
     args.extend(["-L".into(), out.to_string_lossy().into(), "--extern".into(), format!("oracle_api={}/liboracle_api.rlib", out.display())]);
     for s in sets.iter().filter(|_| given) {
         args.extend(["--extern".into(), format!("set_{}={}/libset_{}.rlib", s.name, out.display(), s.name)]);
+    }
+    if given {
+        args.extend(["--extern".into(), format!("offsets={}/liboffsets.rlib", out.display())]);
     }
     if bridge::needed(&archive) {
         args.extend(words(&["--cfg", "bridge"]));

@@ -56,7 +56,7 @@ pub fn copy(original: &Path, stand_ins: &Path, set: &Set, out: &Path) -> Result<
     Ok(all)
 }
 
-fn read(path: &Path) -> Result<String, String> {
+pub fn read(path: &Path) -> Result<String, String> {
     fs::read_to_string(path).map_err(|e| format!("{}: {e}", path.display()))
 }
 
@@ -92,7 +92,7 @@ fn literals(text: &str, set: &Set) -> Result<String, String> {
 }
 
 /// The default set's constants become those of `set`.
-fn constants(text: &str, set: &Set) -> Result<String, String> {
+pub fn constants(text: &str, set: &Set) -> Result<String, String> {
     let head = "pub const SECURITY_128_BIT: SecurityParams = SecurityParams {";
     let start = text.find(head).ok_or("no SECURITY_128_BIT in the original")?;
     let end = start + text[start..].find("\n};").ok_or("no end of SECURITY_128_BIT")?;

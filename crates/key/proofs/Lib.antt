@@ -1,4 +1,5 @@
 pub mod Checks
+pub mod OffsetRule
 pub mod Rows
 pub mod Draws
 pub mod Errors

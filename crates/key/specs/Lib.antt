@@ -1,4 +1,5 @@
 pub mod Offset
+pub mod OffsetRule
 pub mod Testvec
 pub mod Switching
 pub mod Bits

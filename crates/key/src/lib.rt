@@ -32,20 +32,18 @@ pub struct RowPlace {
     pub value: u32,
 }
 
-// The sum over i below L of 2^(31 - i·BGBIT), the parameters being in range: half a digit in each of the L top fields.
-fn offset_sum(p: Params) -> u32
+// The offset by its rule (`offsetRule`), the parameters being in range: half a digit in each of the L top fields. The product has at most 31 + BGBIT bits, and
+// the division is exact; that of `power` alone would not be, unless BGBIT is 1.
+fn offset_by_rule(p: Params) -> u32
     requires { ⌜ InRange p ⌝ }
     ensures { λ r. ⌜ r ≡ offset p ⌝ }
 {
-    let l = p.l;
     let bgbit = p.bgbit;
-    let mut sum: u32 = 0;
-    let mut i: u32 = 0;
-    while i < l {
-        sum = ring::add(sum, ring::power(31 - i * bgbit));
-        i += 1;
-    }
-    sum
+    let bits = p.l * bgbit;
+    let power = 1u64 << (31 + bgbit - bits);
+    let fields = (1u64 << bits) - 1;
+    let field = (1u64 << bgbit) - 1;
+    (power * fields / field) as u32
 }
 
 // `gen_decomposition_offset`: what decomposition adds to a word first. Refusal: 1.
@@ -61,7 +59,7 @@ pub fn decomposition_offset(p: Params) -> Offset
     }
     Offset {
         answer,
-        value: Torus(offset_sum(p)),
+        value: Torus(offset_by_rule(p)),
     }
 }
 

@@ -6,7 +6,9 @@ use crate::compare::{self, Tally};
 use crate::exact;
 use crate::exact_words::{self, agreed};
 use crate::ffi::key::*;
+use crate::list::original_offset;
 use crate::sizes::Sizes;
+use crate::table;
 
 const KEY0: Slot = Slot::Key(|s| s.n);
 const KEY1: Slot = Slot::Key(|s| s.ring);
@@ -98,10 +100,46 @@ fn switching_row(p: &[u32; 6], args: &mut [Arg]) -> u64 {
     egl_key_row_index(p, &mut indices.map(Arg::Num))
 }
 
+/// The offset by the rule of document 02 (2026-04), in 128 bits; none where the division leaves a remainder.
+fn rule(bgbit: u32, l: u32) -> Option<u128> {
+    let (dividend, divisor) = ((1u128 << (31 + bgbit - l * bgbit)) * ((1 << (l * bgbit)) - 1), (1u128 << bgbit) - 1);
+    (dividend % divisor == 0).then_some(dividend / divisor)
+}
+
+/// BGBIT and L whose product passes 2^32: modulo 2^32 the first four are in range.
+const WRAPPING: [(u32, u32); 8] =
+    [(2, (1 << 31) + 1), (3, 0x5555_5556), (16, (1 << 28) + 2), (24, (1 << 29) + 1), (2, 1 << 31), (24, u32::MAX), (1 << 16, 1 << 16), (u32::MAX, u32::MAX)];
+
+/// Every BGBIT and L in range, with the set's other numbers: the library against the original's loop, and both against the rule. About the range, and where the
+/// product wraps: refusal 1.
+fn offsets(set: &Set, tally: &mut Tally) {
+    for (bgbit, l) in (0..=26).flat_map(|bgbit| (0..=34).map(move |l| (bgbit, l))).chain(WRAPPING) {
+        let [n, nbit, _, _, basebit, t] = set.p;
+        let p = [n, nbit, bgbit, l, basebit, t];
+        let number = table::number(&p, ROUTINES[0].slots, &[Arg::Num(0)]);
+        let want = if number == 0 { exact::offset(&p) } else { 0 };
+        tally.refused(number);
+        let answer = egl_key_decomposition_offset(&p, &mut []);
+        tally.same(answer == (want as u64) << 32 | number as u64, || format!("offset at BGBIT {bgbit}, L {l}: answer {answer:#x}, wanted {want:#x}, number {number}"));
+        if number != 0 {
+            continue;
+        }
+        if rule(bgbit, l) != Some(want as u128) {
+            tally.differ(format!("the rule at BGBIT {bgbit}, L {l} does not give {want:#x}"));
+        }
+        match (set.original, original_offset(bgbit, l)) {
+            (None, _) => {}
+            (_, Some(theirs)) if theirs == want => tally.remark("an offset was what the original's loop gives, compiled for its BGBIT and L"),
+            (_, theirs) => tally.differ(format!("the original's loop at BGBIT {bgbit}, L {l} gives {theirs:x?}, wanted {want:#x}")),
+        }
+    }
+}
+
 pub fn run(set: &Set, tally: &mut Tally) {
     for r in &ROUTINES {
         compare::run(tally, r, set, 30_000_000, 300);
     }
+    offsets(set, tally);
     if set.p[2] == 6 && set.p[3] == 3 {
         let answer = egl_key_decomposition_offset(&set.p, &mut []);
         tally.same(answer == 0x8208_0000 << 32, || "document 01: offset at BGBIT 6, L 3".into());

@@ -25,16 +25,16 @@ returns c =
     let e = c .before .before .check .ensures in
     ap₂ both e (kept _ _ _ (λ z. c .if1 .taken (number e ∙ z)))
 
-offset-sum-requires : tie.Need-offset-sum-requires
-offset-sum-requires c κs = in-range _ (sym (number (c .before .before .check .ensures)) ∙ c .if1 .left)
+offset-by-rule-requires : tie.Need-offset-by-rule-requires
+offset-by-rule-requires c κs = in-range _ (sym (number (c .before .before .check .ensures)) ∙ c .if1 .left)
 
 returns-2 : tie.Need-returns-2
 unfolding offsetOut
 returns-2 c =
     let e = c .before .before .before .check .ensures in
-    ap₂ both e (done _ _ _ (sym (number e) ∙ c .before .if1 .left) (c .offset-sum .ensures))
+    ap₂ both e (done _ _ _ (sym (number e) ∙ c .before .if1 .left) (c .offset-by-rule .ensures))
 
 pub decomposition-offset-spec : {M : Type 1} → statement M
 decomposition-offset-spec =
     tie.close
-    (tie.spec (λ c κs. search needs) returns offset-sum-requires returns-2)
+    (tie.spec (λ c κs. search needs) returns offset-by-rule-requires returns-2)
