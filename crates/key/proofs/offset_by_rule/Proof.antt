@@ -1,10 +1,10 @@
 -- `key::offset_by_rule` meets its contract: the three shifts are the rule's powers, 64 bits hold the product, and the quotient is the offset, by the laws of OffsetRule.
 -- Assumes nothing.
-use mathlib.Core.Path.{_≡_, sym, ap, ap₂, _∙_}
+use mathlib.Core.Path.{_≡_, sym, ap₂, _∙_}
 use Prim.Native.Nat.{ℕ, _+_, _-_, _*_, _/_, _%_, _^_, _<_}
-use native.Mathlib.Nat.{one-mul, mod-eq-of-lt}
+use native.Mathlib.Nat.{one-mul}
 use native.Mathlib.Omega.{arith}
-use lib.Pow.{pow-pos, pow-lt, pow-mono}
+use lib.Pow.{pow-pos, pow-mono, shl-exact}
 use Rattle.ring.specs.Word.{Q}
 use Rattle.params.specs.declared.Params.{Params}
 use Rattle.params.specs.Ranges.{InRange}
@@ -20,7 +20,7 @@ shifted s = 1 * 2 ^ s % 2 ^ 64
 
 -- below 64 places nothing is lost
 shifted-is : (s : ℕ) → s < 64 → shifted s ≡ 2 ^ s
-shifted-is s h = ap (λ (n : ℕ). n % 2 ^ 64) (one-mul (2 ^ s)) ∙ mod-eq-of-lt (pow-lt {i = s} {j = 64} h)
+shifted-is s h = shl-exact {a = 1} 1 s 64 (omega arith) (omega arith) ∙ one-mul (2 ^ s)
 
 module _ (p : Params) (r : InRange p) where
   power : shifted (31 + p .bgbit - p .l * p .bgbit) ≡ 2 ^ (31 + p .bgbit - p .l * p .bgbit)
