@@ -53,6 +53,12 @@ unsafe extern "C" {
     fn egl_bristol_import(text: *const u8, text_len: usize, out: *mut u8, out_len: usize) -> u64;
 }
 
+#[cfg(group_report)]
+unsafe extern "C" {
+    fn egl_drift_report_of(drifts: In, drifts_len: usize, out: Out, out_len: usize) -> u64;
+    fn egl_drift_report_merge(first: In, first_len: usize, second: In, second_len: usize, out: Out, out_len: usize) -> u64;
+}
+
 macro_rules! done {
     ($p:ident, $f:ident($($a:expr),*)) => {
         assert_eq!(unsafe { $f($p[0], $p[1], $p[2], $p[3], $p[4], $p[5], $($a),*) }, 0, "the library refused")
@@ -156,4 +162,15 @@ pub fn work(bytes: &[u8]) -> u32 {
 #[cfg(group_bristol)]
 pub fn import_bristol(text: &[u8], out: &mut [u8]) -> u64 {
     unsafe { egl_bristol_import(text.as_ptr(), text.len(), out.as_mut_ptr(), out.len()) }
+}
+
+#[cfg(group_report)]
+pub fn report_of(drifts: &[u32], out: &mut [u32]) {
+    assert_eq!(unsafe { egl_drift_report_of(drifts.as_ptr(), drifts.len(), out.as_mut_ptr(), out.len()) }, 0, "the library refused")
+}
+
+#[cfg(group_report)]
+pub fn merge_reports(first: &[u32], second: &[u32], out: &mut [u32]) {
+    let answer = unsafe { egl_drift_report_merge(first.as_ptr(), first.len(), second.as_ptr(), second.len(), out.as_mut_ptr(), out.len()) };
+    assert_eq!(answer, 0, "the library refused")
 }

@@ -7,6 +7,8 @@ mod column;
 mod library;
 mod measure;
 mod plain;
+#[cfg(group_report)]
+mod report;
 mod transform;
 #[cfg(group_work)]
 mod work;
@@ -235,5 +237,9 @@ fn main() {
     #[cfg(group_drift)]
     if wanted("drift") {
         drifts();
+    }
+    #[cfg(group_report)]
+    if wanted("report") {
+        report::run();
     }
 }

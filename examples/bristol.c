@@ -41,11 +41,9 @@ static int wrong_bits(const uint8_t *bytes, size_t len, int printed) {
     return wrong;
 }
 
-/* Prints an answer beside the one that is due; 1 where they differ. */
-static int refused(const char *what, const char *from, size_t out_len, uint32_t number, uint32_t place) {
-    egl_answer got = import(from, again, out_len);
-    printf("%s: refused %u at %u\n", what, EGL_NUMBER(got), EGL_PLACE(got));
-    return EGL_NUMBER(got) != number || EGL_PLACE(got) != place;
+/* Prints how a text is refused; 1 where another refusal is due. */
+static int text_refused(const char *what, const char *from, size_t out_len, uint32_t number, uint32_t place) {
+    return refused(what, import(from, again, out_len), (egl_answer)place << 32 | number);
 }
 
 int main(void) {
@@ -63,12 +61,12 @@ int main(void) {
 
     /* what is refused: nothing of it is written */
     memset(again, 7, sizeof again);
-    int differ = refused("a name that is none", "1 3\n1 2\n1 1\n\n2 1 0 1 2 NAND\n", sizeof again, 11, 23);
-    differ += refused("a wire read before it is set", "1 3\n1 2\n1 1\n\n2 1 0 2 2 AND\n", sizeof again, 11, 19);
-    differ += refused("a text that ends too early", "1 3\n1 2\n1 1\n\n2 1 0 1", sizeof again, 11, 20);
-    differ += refused("MAND", "1 3\n1 2\n1 1\n\n2 1 0 1 2 MAND\n", sizeof again, 12, 23);
-    differ += refused("no output", "1 3\n1 2\n1 0\n\n2 1 0 1 2 AND\n", sizeof again, 12, 10);
-    differ += refused("a byte too few for the adder", adder, len - 1, 2, 0);
+    int differ = text_refused("a name that is none", "1 3\n1 2\n1 1\n\n2 1 0 1 2 NAND\n", sizeof again, 11, 23);
+    differ += text_refused("a wire read before it is set", "1 3\n1 2\n1 1\n\n2 1 0 2 2 AND\n", sizeof again, 11, 19);
+    differ += text_refused("a text that ends too early", "1 3\n1 2\n1 1\n\n2 1 0 1", sizeof again, 11, 20);
+    differ += text_refused("MAND", "1 3\n1 2\n1 1\n\n2 1 0 1 2 MAND\n", sizeof again, 12, 23);
+    differ += text_refused("no output", "1 3\n1 2\n1 0\n\n2 1 0 1 2 AND\n", sizeof again, 12, 10);
+    differ += text_refused("a byte too few for the adder", adder, len - 1, 2, 0);
     for (size_t i = 0; i < sizeof again; i++) differ += again[i] != 7;
     return wrong != 0 || differ != 0;
 }

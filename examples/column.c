@@ -26,12 +26,6 @@ static egl_answer column(size_t kind, size_t from, size_t many, uint32_t *to) {
     return egl_gate_column(P, kind, many, pairs + from * 2 * ciphertext, many * 2 * ciphertext, ksk, ksk_len, bsk, bsk_len, to + from * ciphertext, many * ciphertext);
 }
 
-/* Prints an answer beside the one that is due; 1 where they differ. */
-static int refused(const char *what, egl_answer got, uint32_t number) {
-    printf("%s: refused %u at %u\n", what, EGL_NUMBER(got), EGL_PLACE(got));
-    return got != number;
-}
-
 int main(void) {
     draw_keys(P, key0, key1, ksk, bsk);
     /* pair i / 2, its a and then its b */

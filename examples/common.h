@@ -1,4 +1,5 @@
-/* What the examples share: words from the system's random source, keys, a practice set's noise and fresh ciphertexts made of them, and answers that must not be refusals. */
+/* What the examples share: words from the system's random source, keys, a practice set's noise and fresh ciphertexts made of them, answers that must not be refusals and
+ * answers that must be. */
 #ifndef EXAMPLES_COMMON_H
 #define EXAMPLES_COMMON_H
 
@@ -33,6 +34,12 @@ static inline egl_answer done(const char *what, egl_answer a) {
         exit(1);
     }
     return a;
+}
+
+/* Prints a refusal; 1 where another answer is due. */
+static inline int refused(const char *what, egl_answer got, egl_answer due) {
+    printf("%s: refused %u at %u\n", what, EGL_NUMBER(got), EGL_PLACE(got));
+    return got != due;
 }
 
 /* So many elements, and never none: a buffer of length 0 has an address here too. */

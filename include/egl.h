@@ -22,6 +22,7 @@
  *   9  circuit: a gate; column: a kind that is not 3 to 12
  *  10  circuit: an output
  *  11  text: not in the Bristol Fashion form, anywhere in it      12  text: in the form, but with a MAND or past a limit of circuits
+ *  13  drift report: of more than 65,535 wires
  *
  * Parameters: n 1..1,100; nbit 1..10, N = 2^nbit; bgbit 1..24, l at least 1, l * bgbit at most 32; basebit 1..6, t at least 1,
  * basebit * t at most 30. A word (uint32_t) counts 2^-32 of a turn.
@@ -40,7 +41,7 @@ extern "C" {
 
 /* The interface that this header describes. One more with each release in which a function is added, taken away or changed: where egl_version() gives another number, header and
  * archive do not belong together. */
-#define EGL_VERSION 4
+#define EGL_VERSION 5
 
 /* The interface that the archive has. */
 uint32_t egl_version(void);
@@ -404,6 +405,46 @@ egl_answer egl_fresh_drift(EGL_PARAMS, const uint32_t *key, size_t key_len, cons
 
 /* 1 where a drift is inside, else 0. */
 uint32_t egl_drift_inside(uint32_t drift);
+
+/* ---- a report over many wires' drifts ----
+ *
+ * A drift's size is the number of bits of its absolute value: 32 less its leading zeros, so 0 has size 0, 1 and -1 have 1, -2^31 has 32. A drift is inside (see
+ * above) exactly where its size is at most EGL_DRIFT_REPORT_INSIDE. A report tells how many wires had each size; the drift that is largest in absolute value, the earliest at
+ * a tie; its wire, which is its place in the report, from 0; and of how many wires it is, at most EGL_DRIFT_REPORT_WIRES. Its counts add up to that total. It speaks of
+ * the drifts that it is given, those of wires, and not of what is brought into rotations: that a run's outputs are right, egl_drift_run's value tells, and no report.
+ *
+ * A report crosses as EGL_DRIFT_REPORT_WORDS words in this order: the 33 counts, the largest drift, its wire, the total. The struct below is these words, for it has no
+ * padding; EGL_DRIFT_REPORT(&r) hands one over as the pointer and the length that a call takes:
+ *     egl_drift_report_of(drifts, wires, EGL_DRIFT_REPORT(&r)) */
+
+#define EGL_DRIFT_REPORT_WORDS 36
+#define EGL_DRIFT_REPORT_WIRES 65535
+#define EGL_DRIFT_REPORT_INSIDE 29
+
+typedef struct {
+    uint32_t counts[33]; /* counts[s]: the wires whose drift has size s */
+    int32_t largest;     /* the drift that is largest in absolute value, 0 where the total is 0 */
+    uint32_t wire;       /* its place in the report, from 0 */
+    uint32_t total;      /* the number of wires */
+} egl_drift_report;
+
+/* the choice is always the first: it is there so that the compiler tells of a pointer to anything else */
+#define EGL_DRIFT_REPORT(report) ((uint32_t *)(1 ? (report) : (egl_drift_report *)0)), EGL_DRIFT_REPORT_WORDS
+
+/* The report of no wire: zeros. Refusal 2. */
+egl_answer egl_drift_report_empty(uint32_t *out, size_t out_len);
+
+/* The report of these drifts, as egl_drift_run leaves them. Refusals 2 for out, 13 for more than EGL_DRIFT_REPORT_WIRES drifts. */
+egl_answer egl_drift_report_of(const uint32_t *drifts, size_t drifts_len, uint32_t *out, size_t out_len);
+
+/* The report of the first's wires followed by the second's. A tie goes to the first's wire; a wire of the second is moved up by the first's total. Merging a report
+ * with that of no wire, on either side, gives it again. first and second may be one buffer; out must overlap neither, so to add to a report merge into a second struct
+ * and assign that. Refusals 2 for first, second and out, 13 where the totals add up to more than EGL_DRIFT_REPORT_WIRES.
+ *
+ * Any words are taken for a report. Counts add modulo 2^32; the second's largest is taken exactly where the second's total is not 0 and the first's total is 0 or the
+ * second's largest is greater in absolute value, and its wire is then the first's total plus the second's wire, modulo 2^32. So words whose total is not too large stay
+ * as they are with the report of no wire as second, and with it as first too, but that a largest and a wire beside a total of 0 become 0. */
+egl_answer egl_drift_report_merge(const uint32_t *first, size_t first_len, const uint32_t *second, size_t second_len, uint32_t *out, size_t out_len);
 
 #ifdef __cplusplus
 }

@@ -18,17 +18,18 @@ use std::sync::atomic::{AtomicUsize, Ordering};
 use std::sync::Mutex;
 
 /// The groups of comparisons, in port order.
-const GROUPS: [&str; 14] =
-    ["params", "utils", "product", "tlwe", "trlwe", "key", "rotation", "trgsw", "gates", "column", "circuit", "bristol", "encrypted", "drift"];
+const GROUPS: [&str; 15] =
+    ["params", "utils", "product", "tlwe", "trlwe", "key", "rotation", "trgsw", "gates", "column", "circuit", "bristol", "encrypted", "drift", "drift_report"];
 
 /// The files in ffi/ with the functions that a group needs: columns and encrypted runs are compared with single gates, drift runs with encrypted ones;
-/// imported and exported circuits are run on plain bits, and a circuit's work is held against the rotations of its runs.
+/// imported and exported circuits are run on plain bits, a circuit's work is held against the rotations of its runs, and the drifts of drift runs are reported.
 fn declarations(group: &str) -> Vec<&str> {
     match group {
         "bristol" => vec!["circuit", "bristol"],
         "column" => vec!["gates", "column"],
         "encrypted" => vec!["gates", "circuit", "encrypted"],
         "drift" => vec!["gates", "circuit", "encrypted", "drift"],
+        "drift_report" => vec!["drift", "drift_report"],
         _ => vec![group],
     }
 }

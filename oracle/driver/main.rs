@@ -12,6 +12,8 @@ mod case;
 mod circuits;
 mod compare;
 mod draw;
+#[cfg(group_drift_report)]
+mod drift_report;
 mod exact;
 mod exact_run;
 mod exact_words;

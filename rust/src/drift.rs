@@ -1,6 +1,6 @@
 //! Drift: how far a wire's phase is from what it carries, for whoever holds the secret keys. Runs of a whole circuit in one call.
 
-use crate::{ffi, Circuit, CloudKey, Refusal, SecretKeys};
+use crate::{ffi, Circuit, CloudKey, DriftReport, Refusal, SecretKeys};
 use std::fmt;
 
 /// Both secret keys by reference, as a drift run takes them. Nothing is checked here: the library checks their lengths (2) and that their
@@ -43,6 +43,13 @@ pub struct Drifts {
     pub inside: bool,
 }
 
+impl Drifts {
+    /// The report of the wires' drifts. A circuit has at most 1,280 wires, so that of a run is not refused; 13 for more than 65,535 drifts.
+    pub fn report(&self) -> Result<DriftReport, Refusal> {
+        DriftReport::of(&self.drifts)
+    }
+}
+
 /// The ciphertexts are long: their words stay out of logs.
 impl fmt::Debug for Drifts {
     fn fmt(&self, f: &mut fmt::Formatter<'_>) -> fmt::Result {
@@ -63,6 +70,15 @@ pub fn inside(drift: i32) -> bool {
 pub fn margin(drift: i32) -> i32 {
     // There are at most 32 leading zeros, so this is from -3 to 29.
     (drift.unsigned_abs().leading_zeros() as i32).saturating_sub(3)
+}
+
+/// A drift's size, by which a [`DriftReport`] counts: the bits of its absolute value, 29 less its [`margin`].
+///
+/// ```
+/// assert_eq!([0, 1, -1, (1 << 29) - 1, 1 << 29, i32::MIN].map(egl::size), [0, 1, 1, 29, 30, 32]);
+/// ```
+pub fn size(drift: i32) -> u32 {
+    u32::BITS.saturating_sub(drift.unsigned_abs().leading_zeros())
 }
 
 /// Plain bits as the library takes them.

@@ -1,6 +1,6 @@
 //! A drift run gate by gate with progress: each wire's drift, each gate's worst brought-in drift, the margin of the whole.
 
-use crate::{ffi, inside, lent, margin, Circuit, CloudKey, Progress, Refusal, Secrets};
+use crate::{ffi, inside, lent, margin, Circuit, CloudKey, DriftReport, Progress, Refusal, Secrets};
 use std::fmt;
 
 /// What the gate just done tells.
@@ -98,6 +98,12 @@ impl<'a> DriftRun<'a> {
     /// The drift of a wire, in 2^-32 of a turn, once it is known: an input's at once, a gate's when it is done.
     pub fn drift(&self, wire: usize) -> Option<i32> {
         self.drifts.get(..self.known())?.get(wire).map(|word| *word as i32)
+    }
+
+    /// The report of the drifts that are known, in wire order: the inputs' at once, a gate's when it is done. A circuit has at most 1,280 wires, so this is not
+    /// refused.
+    pub fn report(&self) -> Result<DriftReport, Refusal> {
+        DriftReport::of_words(self.drifts.get(..self.known()).unwrap_or_default())
     }
 
     /// The worst brought-in drift of a gate, from 0, that is done and rotates.

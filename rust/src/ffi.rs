@@ -8,6 +8,7 @@
 #![allow(unsafe_code)]
 
 use crate::Params;
+use std::slice;
 
 #[rustfmt::skip]
 extern "C" {
@@ -56,6 +57,10 @@ extern "C" {
     fn egl_drift_gate(n: u32, nbit: u32, bgbit: u32, l: u32, basebit: u32, t: u32, ksk: *const u32, ksk_len: usize, bsk: *const u32, bsk_len: usize, key: *const u32, key_len: usize, z: *const u32, z_len: usize, bytes: *const u8, bytes_len: usize, g: usize, wires: *mut u32, wires_len: usize, drifts: *mut u32, drifts_len: usize) -> u64;
     fn egl_fresh_drift(n: u32, nbit: u32, bgbit: u32, l: u32, basebit: u32, t: u32, key: *const u32, key_len: usize, c: *const u32, c_len: usize, bit: u8) -> u64;
     fn egl_drift_inside(drift: u32) -> u32;
+
+    fn egl_drift_report_empty(out: *mut u32, out_len: usize) -> u64;
+    fn egl_drift_report_of(drifts: *const u32, drifts_len: usize, out: *mut u32, out_len: usize) -> u64;
+    fn egl_drift_report_merge(first: *const u32, first_len: usize, second: *const u32, second_len: usize, out: *mut u32, out_len: usize) -> u64;
 }
 
 /// The two keys of a gate, as they cross.
@@ -153,6 +158,27 @@ pub(crate) fn version() -> u32 {
 pub(crate) fn drift_inside(drift: u32) -> bool {
     // SAFETY: a number alone crosses, and the function takes any.
     unsafe { egl_drift_inside(drift) != 0 }
+}
+
+/// Drifts as the words that cross, without a copy.
+pub(crate) fn drift_words(drifts: &[i32]) -> &[u32] {
+    // SAFETY: pointer, length and lifetime are those of one slice; `i32` and `u32` have one size and one alignment, and any bits are a value of either.
+    unsafe { slice::from_raw_parts(drifts.as_ptr().cast(), drifts.len()) }
+}
+
+pub(crate) fn drift_report_empty(out: &mut [u32]) -> u64 {
+    // SAFETY: pointer and length are those of one slice, which is `&mut`.
+    unsafe { egl_drift_report_empty(out.as_mut_ptr(), out.len()) }
+}
+
+pub(crate) fn drift_report_of(drifts: &[u32], out: &mut [u32]) -> u64 {
+    // SAFETY: each pointer and length are those of one slice, and `out` is `&mut`, so the other does not overlap it.
+    unsafe { egl_drift_report_of(drifts.as_ptr(), drifts.len(), out.as_mut_ptr(), out.len()) }
+}
+
+pub(crate) fn drift_report_merge(first: &[u32], second: &[u32], out: &mut [u32]) -> u64 {
+    // SAFETY: each pointer and length are those of one slice, and `out` is `&mut`, so the others do not overlap it.
+    unsafe { egl_drift_report_merge(first.as_ptr(), first.len(), second.as_ptr(), second.len(), out.as_mut_ptr(), out.len()) }
 }
 
 pub(crate) fn circuit_check(bytes: &[u8]) -> u64 {

@@ -1,10 +1,11 @@
 //! Safe Rust over `libegl_c.a`, the proved evaluator of encrypted gates.
 //!
-//! The archive does the work and is proved: every call takes any numbers and any slices, does its work or gives one of twelve numbered
+//! The archive does the work and is proved: every call takes any numbers and any slices, does its work or gives one of thirteen numbered
 //! refusals, and a refused call has written to none of the memory lent to it. This crate turns lengths and pointers into slices, numbers into
 //! [`Refusal`], and adds what the archive leaves to its caller: memory, random numbers and noise. What it adds is ordinary Rust and not
 //! proved: [`Random`], [`Noise`] and the drawing of keys, [`Builder`], the order in which [`Circuit`] and its runner lend slices, how
-//! [`CloudKey::column_in_threads`] cuts a column, and what [`Kind`] and [`Gate`] tell of themselves, [`Circuit::work_to`] by it.
+//! [`CloudKey::column_in_threads`] cuts a column, what [`Kind`] and [`Gate`] tell of themselves, [`Circuit::work_to`] by it, and how a [`DriftReport`] is
+//! printed.
 //!
 //! Two ways to call:
 //!
@@ -51,6 +52,25 @@
 //! Whoever holds the secret keys can have a circuit run with its drift, how far each wire's phase is from what it carries: [`Circuit::evaluate_drift`], or
 //! [`DriftRun`] gate by gate with the margin that is left. A run that is told inside has the right outputs; that is proved, for any keys and noise.
 //!
+//! A report tells of many wires how large their drifts were: [`DriftReport`] counts them by size in bits and has the largest. The library counts, and it merges the
+//! reports of many runs; as text a report is a line, a table, a bar chart or CSV.
+//!
+//! ```no_run
+//! use egl::{DriftReport, DriftRun, Refusal};
+//!
+//! /// One report of all runs, printed as a line and as a chart. It is refused with 13 where they have more than 65,535 wires in all.
+//! fn report_of(runs: &[DriftRun<'_>]) -> Result<DriftReport, Refusal> {
+//!     let mut all = DriftReport::empty();
+//!     for run in runs {
+//!         all.absorb(&run.report()?)?;
+//!     }
+//!     print!("{all}\n{}", all.chart(50));
+//!     Ok(all)
+//! }
+//! ```
+//!
+//! It speaks of wires and not of what is brought into rotations: that a run's outputs are right, [`DriftRun::inside`] tells.
+//!
 //! No call of this crate panics, whatever it is given. The time that drawing takes depends on what is drawn, and memory that held
 //! secret keys is not wiped.
 
@@ -63,6 +83,8 @@ mod circuit;
 mod cloud;
 mod column;
 mod drift;
+mod drift_report;
+mod drift_report_text;
 mod drift_run;
 mod error;
 mod ffi;
@@ -81,7 +103,8 @@ mod version;
 pub use builder::{Builder, Wire};
 pub use circuit::Circuit;
 pub use cloud::{CloudKey, OwnedCloudKey};
-pub use drift::{inside, margin, Drifts, Secrets};
+pub use drift::{inside, margin, size, Drifts, Secrets};
+pub use drift_report::DriftReport;
 pub use drift_run::{DriftRun, GateDrift};
 pub use error::Error;
 pub use gate::Gate;

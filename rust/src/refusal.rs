@@ -53,6 +53,8 @@ pub enum Refusal {
         /// The first byte of the token that shows it; `u32::MAX` stands for every place from there on.
         place: u32,
     },
+    /// 13: a drift report would be of more than 65,535 wires.
+    ReportWires,
     /// A number that this wrapper does not know: the archive is newer than the wrapper.
     Unknown {
         /// The number as the archive gave it.
@@ -82,6 +84,7 @@ impl Refusal {
             10 => Refusal::CircuitOutput { place },
             11 => Refusal::TextForm { place },
             12 => Refusal::TextLimit { place },
+            13 => Refusal::ReportWires,
             _ => Refusal::Unknown { number, place },
         })
     }
@@ -101,14 +104,15 @@ impl Refusal {
             Refusal::CircuitOutput { .. } => 10,
             Refusal::TextForm { .. } => 11,
             Refusal::TextLimit { .. } => 12,
+            Refusal::ReportWires => 13,
             Refusal::Unknown { number, .. } => number,
         }
     }
 
-    /// The place that goes with it: a byte of the circuit for 6 to 10, of the text for 11 and 12, 0 for 1 to 5 and for a column's kind.
+    /// The place that goes with it: a byte of the circuit for 6 to 10, of the text for 11 and 12, 0 for 1 to 5, for 13 and for a column's kind.
     pub fn place(self) -> u32 {
         match self {
-            Refusal::Parameter | Refusal::Length | Refusal::Index | Refusal::SecretKeyWord | Refusal::Modulus => 0,
+            Refusal::Parameter | Refusal::Length | Refusal::Index | Refusal::SecretKeyWord | Refusal::Modulus | Refusal::ReportWires => 0,
             Refusal::CircuitMark { place }
             | Refusal::CircuitVersion { place }
             | Refusal::CircuitLength { place }
@@ -137,6 +141,7 @@ impl fmt::Display for Refusal {
             Refusal::CircuitOutput { place } => write!(f, "refused (10): an output of the circuit is no wire of it, at byte {place}"),
             Refusal::TextForm { place } => write!(f, "refused (11): the text is not in the Bristol Fashion form, at byte {place}"),
             Refusal::TextLimit { place } => write!(f, "refused (12): the text has a MAND, or its circuit breaks a limit, at byte {place}"),
+            Refusal::ReportWires => f.write_str("refused (13): a drift report would be of more than 65,535 wires"),
             Refusal::Unknown { number, place } => write!(f, "refused ({number}) at {place}: this wrapper does not know that number"),
         }
     }

@@ -3,10 +3,10 @@
 use crate::ffi;
 
 /// The version of the interface that this crate is written for, `EGL_VERSION` of its header.
-pub const INTERFACE_VERSION: u32 = 4;
+pub const INTERFACE_VERSION: u32 = 5;
 
 /// The version of the interface that the linked archive has. Where it is not [`INTERFACE_VERSION`], crate and archive do not belong together: up to version 3, for one, a mux
-/// counted one in [`Circuit::work`](crate::Circuit::work).
+/// counted one in [`Circuit::work`](crate::Circuit::work). [`DriftReport`](crate::DriftReport) came with version 5.
 pub fn archive_version() -> u32 {
     ffi::version()
 }

@@ -1,4 +1,4 @@
--- Two outcomes that a contract of this crate allows coincide: of the contract itself, as `rattle` reads it from the code, for every export (01, 'What the contracts owe'): here the products with key rows, the blind rotation, the gates, the circuits and the drift.
+-- Two outcomes that a contract of this crate allows coincide: of the contract itself, as `rattle` reads it from the code, for every export (01, 'What the contracts owe'): here the products with key rows, the blind rotation, the gates, the circuits, the drift and its reports.
 -- Assumes nothing.
 use Rattle.ring.proofs.Outcomes.{Determined, said, said-written, said-written-twice, coincide, same-rest}
 use Rattle.egl_c.proofs.trgsw_c.egl_trgsw_blind_rotate_step as egl-trgsw-blind-rotate-step
@@ -36,6 +36,9 @@ use Rattle.egl_c.proofs.drift_c.egl_drift_inside as egl-drift-inside
 use Rattle.egl_c.proofs.drift_c.egl_fresh_drift as egl-fresh-drift
 use Rattle.egl_c.proofs.drift_c.egl_drift_gate as egl-drift-gate
 use Rattle.egl_c.proofs.drift_c.egl_drift_run as egl-drift-run
+use Rattle.egl_c.proofs.drift_report_c.egl_drift_report_empty as egl-drift-report-empty
+use Rattle.egl_c.proofs.drift_report_c.egl_drift_report_of as egl-drift-report-of
+use Rattle.egl_c.proofs.drift_report_c.egl_drift_report_merge as egl-drift-report-merge
 
 pub egl-trgsw-blind-rotate-step-determined : Determined egl-trgsw-blind-rotate-step.ended egl-trgsw-blind-rotate-step.Reads.Learnt
 egl-trgsw-blind-rotate-step-determined κs a x y v w = said-written-twice 9
@@ -145,3 +148,12 @@ egl-drift-run-determined κs a x y v w p q =
     let written = coincide (p .1 .1 .0) (q .1 .1 .0) in
     let drifted = coincide (p .1 .1 .1 .0) (q .1 .1 .1 .0) in
     (coincide (p .0) (q .0), same-rest 13 (λ i. (held i, (written i, (drifted i, tt)))))
+
+pub egl-drift-report-empty-determined : Determined egl-drift-report-empty.ended egl-drift-report-empty.Reads.Learnt
+egl-drift-report-empty-determined κs a x y v w = said-written 0
+
+pub egl-drift-report-of-determined : Determined egl-drift-report-of.ended egl-drift-report-of.Reads.Learnt
+egl-drift-report-of-determined κs a x y v w = said-written 1
+
+pub egl-drift-report-merge-determined : Determined egl-drift-report-merge.ended egl-drift-report-merge.Reads.Learnt
+egl-drift-report-merge-determined κs a x y v w = said-written 2

@@ -4,6 +4,7 @@ pub mod bristol_c;
 pub mod circuit_c;
 pub mod column_c;
 pub mod drift_c;
+pub mod drift_report_c;
 pub mod gates_c;
 pub mod key_c;
 pub mod params_c;

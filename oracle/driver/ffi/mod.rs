@@ -124,8 +124,11 @@ pub mod bristol;
 pub mod circuit;
 #[cfg(group_column)]
 pub mod column;
-#[cfg(group_drift)]
+// the drifts that a drift run leaves are reported
+#[cfg(any(group_drift, group_drift_report))]
 pub mod drift;
+#[cfg(group_drift_report)]
+pub mod drift_report;
 // drift runs are compared with encrypted runs, and those and columns with single gates
 #[cfg(any(group_encrypted, group_drift))]
 pub mod encrypted;

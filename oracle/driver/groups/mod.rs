@@ -14,6 +14,10 @@ mod column_lengths;
 pub mod drift;
 #[cfg(group_drift)]
 mod drift_circuits;
+#[cfg(group_drift_report)]
+pub mod drift_report;
+#[cfg(group_drift_report)]
+mod drift_report_merges;
 #[cfg(group_encrypted)]
 pub mod encrypted;
 // columns and encrypted runs are compared with single gates, and drift runs share their slots
@@ -41,6 +45,12 @@ mod work;
 
 use crate::case::{Routine, Set};
 use crate::compare::Tally;
+
+/// The number that the header defines under a name.
+pub fn stated(name: &str) -> Option<u32> {
+    let header = include_str!("../../../include/egl.h");
+    header.lines().find_map(|line| line.strip_prefix(&format!("#define {name} "))).and_then(|word| word.parse().ok())
+}
 
 /// How often a group runs.
 pub enum Run {
@@ -87,6 +97,8 @@ pub fn groups() -> Vec<Group> {
         Group { name: "encrypted", run: Run::EachSet(encrypted::run), routines: &[] },
         #[cfg(group_drift)]
         Group { name: "drift", run: Run::EachSet(drift::run), routines: &[] },
+        #[cfg(group_drift_report)]
+        Group { name: "drift_report", run: Run::Once(drift_report::run), routines: &[] },
     ]
 }
 

@@ -52,8 +52,7 @@ fn slice(tally: &mut Tally, original: Reference, source: &mut Source, len: usize
 
 /// The archive's version is the header's.
 fn version(tally: &mut Tally) {
-    let header = include_str!("../../../include/egl.h");
-    let stated = header.split("#define EGL_VERSION ").nth(1).and_then(|rest| rest.lines().next()).and_then(|word| word.parse().ok());
+    let stated = super::stated("EGL_VERSION");
     let got = egl_version(&mut []) as u32;
     crate::ffi::noted("egl_version", 0);
     tally.same(stated == Some(got), || format!("version {got}, in the header {stated:?}"));

@@ -5,6 +5,8 @@ mod builder;
 mod circuits;
 mod column;
 mod drift;
+mod drift_report;
+mod drift_report_text;
 mod encrypted_runs;
 mod gates;
 mod keys;

@@ -1,0 +1,10 @@
+pub mod Sizes
+pub mod Counts
+pub mod Leaders
+pub mod Told
+pub mod Moved
+pub mod Merges
+pub mod Reports
+pub mod AsWords
+pub mod Examples
+pub mod Determined
