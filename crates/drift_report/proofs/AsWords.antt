@@ -31,11 +31,11 @@ module _ (r : Report) (l : length (r .counts) ≡ sizes) where
   pub record-back : reportFrom (reportWords r) ≡ r
   unfolding reportFrom reportWords
   record-back = λ i. record {
-      counts = take-at (r .counts) last sizes l i;
-      largest = record { 0 = word-after 0 i };
-      wire = word-after 1 i;
-      total = word-after 2 i;
-    }
+    counts = take-at (r .counts) last sizes l i;
+    largest = record { 0 = word-after 0 i };
+    wire = word-after 1 i;
+    total = word-after 2 i;
+  }
 
   pub words-length : length (reportWords r) ≡ wordsOfReport
   unfolding reportWords
