@@ -1,5 +1,5 @@
-/* Stands in for the library's import and export, so that the group bristol of the harness can itself be tried: the environment's BRISTOL_FAULT names a planted
- * fault, which the group has to see. See oracle/bristol/faults. It allocates and has no limits of its own, as a program written in an afternoon has none. */
+/* Stands in for the library's import and export, so that the group bristol of the harness can itself be tried: the environment's FAULT names a planted
+ * fault, which the group has to see. See oracle/faults. It allocates and has no limits of its own, as a program written in an afternoon has none. */
 #include <stdint.h>
 #include <stdio.h>
 #include <stdlib.h>
@@ -7,7 +7,7 @@
 
 static int fault(const char *name) {
     static const char *planted;
-    if (!planted) planted = getenv("BRISTOL_FAULT") ? getenv("BRISTOL_FAULT") : "";
+    if (!planted) planted = getenv("FAULT") ? getenv("FAULT") : "";
     return !strcmp(planted, name);
 }
 
