@@ -1,8 +1,8 @@
--- The definitions at worked examples: sizes around powers of two, reports with ties, merges with a tie, with a larger drift in the second and of records that are no reports, and the
--- edge of the refusal. The values are reckoned from the words of document 02, and each side computes.
+-- The definitions at worked examples: sizes around powers of two, reports with ties, merges with a tie, with a larger drift in the second and of records that are no reports, the
+-- edge of the refusal, and the words of a record. The values are reckoned from the words of document 02, and each side computes.
 -- Assumes nothing.
 use mathlib.Core.Path.{_≡_, refl}
-use mathlib.Core.List.{[], _∷_, _++_}
+use mathlib.Core.List.{List, [], _∷_, _++_}
 use Prim.Native.Nat.{ℕ}
 use lib.Count.{leadingZeros}
 use Rattle.ring.specs.Word.{Q}
@@ -15,6 +15,7 @@ use Rattle.drift_report.specs.Size.{bitsOf}
 use Rattle.drift_report.specs.Leader.{ahead, leaderTo, leadOf}
 use Rattle.drift_report.specs.Report.{countTo, reportOf, emptyReport, wiresNumber, told}
 use Rattle.drift_report.specs.Merge.{merged}
+use Rattle.drift_report.specs.Words.{reportWords, reportFrom, emptyNumber, reportNumber, mergeNumber}
 
 -- 0, 1, -1, 2^29 - 1, 2^29, 2^31 - 1, -2^31, 1 - 2^31
 pub sized : (bitsOf 0 ≡ 0)
@@ -65,3 +66,30 @@ edge = (refl, refl)
 pub refused : told (wiresNumber 65536) (small 0 1 0 0 1 0 1) ≡ record { answer = answer 13; report = small 0 0 0 0 0 0 0 }
 unfolding told wiresNumber emptyReport tab
 refused = refl
+
+-- as words: the counts from size 0 on, the largest drift, its wire, the total
+abbrev worded : List ℕ
+worded = 1 ∷ 2 ∷ 3 ∷ 4 ∷ (tab 29 (λ k. 0) ++ (0xFFFFFFFC ∷ 7 ∷ 10 ∷ []))
+
+pub words : (reportWords (small 1 2 3 4 0xFFFFFFFC 7 10) ≡ worded) × (reportFrom worded ≡ small 1 2 3 4 0xFFFFFFFC 7 10)
+unfolding reportWords reportFrom tab
+words = (refl, refl)
+
+-- words whose total is this
+abbrev totalled : ℕ → List ℕ
+totalled total = tab 35 (λ k. 1) ++ (total ∷ [])
+
+-- 2 for a slice a word short or long, before 13; 13 for one wire too many, and for totals that pass 2^32 together
+pub numbers : (emptyNumber 35 ≡ 2)
+    × (emptyNumber 36 ≡ 0)
+    × (reportNumber 65536 37 ≡ 2)
+    × (reportNumber 65536 36 ≡ 13)
+    × (reportNumber 65535 36 ≡ 0)
+    × (mergeNumber (0 ∷ totalled 65535) (totalled 1) 36 ≡ 2)
+    × (mergeNumber (totalled 65535) (0 ∷ totalled 1) 36 ≡ 2)
+    × (mergeNumber (totalled 65535) (totalled 1) 35 ≡ 2)
+    × (mergeNumber (totalled 65535) (totalled 1) 36 ≡ 13)
+    × (mergeNumber (totalled 0xFFFFFFFF) (totalled 1) 36 ≡ 13)
+    × (mergeNumber (totalled 65534) (totalled 1) 36 ≡ 0)
+unfolding tab
+numbers = (refl, refl, refl, refl, refl, refl, refl, refl, refl, refl, refl)
