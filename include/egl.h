@@ -423,12 +423,12 @@ uint32_t egl_drift_inside(uint32_t drift);
 
 typedef struct {
     uint32_t counts[33]; /* counts[s]: the wires whose drift has size s */
-    int32_t largest;     /* the drift that is largest in absolute value, 0 where the total is 0 */
+    int32_t largest;     /* the drift that is largest in absolute value; 0 in the report of no wire */
     uint32_t wire;       /* its place in the report, from 0 */
     uint32_t total;      /* the number of wires */
 } egl_drift_report;
 
-/* the choice is always the first: it is there so that the compiler tells of a pointer to anything else */
+/* the choice is always the first: it is there so that the compiler tells of a pointer to another type (a void * passes, and a const report too, which out must not be) */
 #define EGL_DRIFT_REPORT(report) ((uint32_t *)(1 ? (report) : (egl_drift_report *)0)), EGL_DRIFT_REPORT_WORDS
 
 /* The report of no wire: zeros. Refusal 2. */

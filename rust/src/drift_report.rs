@@ -103,7 +103,7 @@ impl DriftReport {
         &self.counts
     }
 
-    /// The drift that is largest in absolute value, the earliest of several, in 2^-32 of a turn. 0 where there is no wire.
+    /// The drift that is largest in absolute value, the earliest of several, in 2^-32 of a turn. 0 in the report of no wire.
     pub fn largest(&self) -> i32 {
         self.largest
     }

@@ -1,4 +1,4 @@
--- The definitions at worked examples: sizes around powers of two, reports with ties, merges with a tie, with a larger drift in the second and of records that are no reports, the
+-- The definitions at worked examples: sizes around powers of two, reports with ties and with drifts of one size, merges with a tie, with a larger drift in the second and of records that are no reports, the
 -- edge of the refusal, and the words of a record. The values are reckoned from the words of document 02, and each side computes.
 -- Assumes nothing.
 use mathlib.Core.Path.{_≡_, refl}
@@ -56,6 +56,16 @@ merges = (refl, refl)
 pub others : (merged (small 0 0xFFFFFFFF 0 0 1 0 1) (small 0 2 0 0 2 0xFFFFFFFF 1) ≡ small 0 1 0 0 2 0 2) × (merged (small 0 1 0 0 1 0 1) (small 0 0 0 0 7 3 0) ≡ small 0 1 0 0 1 0 1)
 unfolding merged plus leadOf ahead centre H Q tab
 others = (refl, refl)
+
+-- drifts of one size, 4, 7, -6: the larger leads; and of two reports, 5 and then -6
+pub same-size : (reportOf (4 ∷ 7 ∷ 0xFFFFFFFA ∷ []) ≡ small 0 0 0 3 7 1 3) × (merged (small 0 0 0 1 5 0 1) (small 0 0 0 1 0xFFFFFFFA 0 1) ≡ small 0 0 0 2 0xFFFFFFFA 1 2)
+unfolding merged plus leadOf reportOf countTo leaderTo ahead bitsOf centre H Q leadingZeros sumTo tab
+same-size = (refl, refl)
+
+-- two records of no wires: the first's largest drift and wire stay
+pub no-wires : merged (small 1 0 0 0 5 6 0) (small 0 1 0 0 7 8 0) ≡ small 1 1 0 0 5 6 0
+unfolding merged plus leadOf ahead centre H Q tab
+no-wires = refl
 
 -- the most wires, and one more
 pub edge : (wiresNumber 65535 ≡ 0) × (wiresNumber 65536 ≡ 13)

@@ -15,7 +15,7 @@ use borrow.Author.Tests.{lt-ltb, le-ltb}
 use Rattle.ring.specs.Word.{Q, at}
 use Rattle.ring.proofs.Value.{by-test}
 use Rattle.drift_report.specs.declared.leading.Leader.{Leader}
-use Rattle.drift_report.specs.Size.{magnitude}
+use Rattle.drift_size.specs.Size.{magnitude}
 use Rattle.drift_report.specs.Leader.{ahead, leaderTo}
 use Rattle.drift_report.proofs.Sizes.{magnitude-none, magnitude-zero}
 

@@ -8,3 +8,4 @@ pub mod Reports
 pub mod AsWords
 pub mod Examples
 pub mod Determined
+pub mod Contracts

@@ -1,6 +1,6 @@
 -- Laws of merging. The merge of two lists' reports is the report of the first's drifts followed by the second's, refused exactly where that is (`merge-appends`, `merge-told`): by the
 -- laws of counts and leaders, and since so few wires do not pass 2^32. Of any records: it does not matter which two of three are merged first, refusals included (`merge-assoc`,
--- `merge-order`), the empty report is a unit (`empty-right`, `empty-left`, `empty-left-none`; where it is not, `left-not-unit`), and one of the two has the largest drift, by the totals
+-- `merge-order`), the empty report is a unit (`empty-right`, `empty-right-told`, `empty-left`, `empty-left-none`; where it is not, `left-not-unit`), and one of the two has the largest drift, by the totals
 -- and the drifts (`first-kept`, `second-taken`): each by the cases of a total being 0.
 -- Assumes nothing.
 use mathlib.Core.Path.{_≡_, refl, sym, ap, ap₂, _∙_}
@@ -23,14 +23,14 @@ use Rattle.params.specs.Refusal.{check, ifDone}
 use Rattle.drift_report.specs.declared.leading.Leader.{Leader}
 use Rattle.drift_report.specs.declared.Report.{Report}
 use Rattle.drift_report.specs.declared.ReportTold.{ReportTold}
-use Rattle.drift_report.specs.Size.{magnitude}
+use Rattle.drift_size.specs.Size.{magnitude}
 use Rattle.drift_report.specs.Leader.{ahead, leaderTo, leadOf}
 use Rattle.drift_report.specs.Report.{sizes, countTo, reported, reportOf, emptyReport, wiresMost, wiresNumber, told}
 use Rattle.drift_report.specs.Merge.{moved, leader, merged}
 use Rattle.drift_report.proofs.Sizes.{magnitude-none}
 use Rattle.drift_report.proofs.Counts.{count-most, count-append}
 use Rattle.drift_report.proofs.Leaders.{at-wire, lead, shifted, ahead-first, ahead-second, ahead-cases, lead-zero, leader-append}
-use Rattle.drift_report.proofs.Moved.{moved-by, lead-first, lead-second, lead-both, lead-order}
+use Rattle.drift_report.proofs.Moved.{lead-first, lead-second, lead-both, lead-order}
 
 -- ---- the reports of two lists
 
@@ -68,7 +68,7 @@ module _ (xs ys : List ℕ) (h : length xs + length ys ≤ wiresMost) where
       ∙ few (countTo xs (length xs) k) (countTo ys (length ys) k) (let x = count-most xs (length xs) k in let y = count-most ys (length ys) k in omega arith)
       ∙ sym (count-append xs ys k))
 
-  leaders-led : leadOf (leaderTo xs (length xs)) (length xs) (moved-by (length xs) (leaderTo ys (length ys))) (length ys) ≡ leaderTo (xs ++ ys) (length xs + length ys)
+  leaders-led : leadOf (leaderTo xs (length xs)) (length xs) (moved (length xs) (leaderTo ys (length ys))) (length ys) ≡ leaderTo (xs ++ ys) (length xs + length ys)
   leaders-led =
       let b = leaderTo ys (length ys) in
       ap (λ (w : ℕ). leadOf (leaderTo xs (length xs)) (length xs) (at-wire w (b .drift)) (length ys)) (few (length xs) (b .wire) (let w = wire-most ys (length ys) in omega arith))
@@ -88,11 +88,10 @@ told-alike wires x y f = by-test (leb wires wiresMost)
     (λ t. ap (told 0) (f (leb→le wires wiresMost t)))
     (λ t. refl)
 
--- What `merge` tells of two records, by its contract.
+-- What `merge` tells of two records, and `report_of` of a list: that their contracts say so is in Contracts.antt.
 abbrev pub mergeTold : Report → Report → ReportTold
 mergeTold a b = told (wiresNumber (a .total + b .total)) (merged a b)
 
--- What `report_of` tells of a list, by its contract.
 abbrev pub reportTold : List ℕ → ReportTold
 reportTold ds = told (wiresNumber (length ds)) (reportOf ds)
 
@@ -154,13 +153,18 @@ module _ (r : Report) (l : length (r .counts) ≡ sizes) (words : (i : ℕ) → 
   pub empty-right : merged r emptyReport ≡ r
   unfolding merged emptyReport
   empty-right =
-      let leads = lead-first (leader r) (r .total) (moved (r .total) emptyReport) 0 refl in
+      let leads = lead-first (leader r) (r .total) (moved (r .total) (leader emptyReport)) 0 refl in
       λ i. reported (counts-right i) (leads i) (add-zero (r .total) i)
+
+  -- Of a call: refused where the record's own total is too large.
+  pub empty-right-told : mergeTold r emptyReport ≡ told (wiresNumber (r .total)) r
+  unfolding emptyReport
+  empty-right-told = ap₂ (λ (n : ℕ) (x : Report). told (wiresNumber n) x) (add-zero (r .total)) empty-right
 
   pub empty-left : (r .total ≡ 0 → ⊥) → r .wire < Q → merged emptyReport r ≡ r
   unfolding merged emptyReport
   empty-left some w =
-      let leads = lead-second (leader emptyReport) 0 (moved 0 r) (r .total) some refl in
+      let leads = lead-second (leader emptyReport) 0 (moved 0 (leader r)) (r .total) some refl in
       let wire = ap (λ (n : ℕ). n % Q) (zero-add (r .wire)) ∙ mod-eq-of-lt w in
       λ i. reported (counts-left i) ((leads ∙ ap (λ (n : ℕ). at-wire n (r .largest .0)) wire) i) (zero-add (r .total) i)
 
@@ -168,7 +172,7 @@ module _ (r : Report) (l : length (r .counts) ≡ sizes) (words : (i : ℕ) → 
   pub empty-left-none : r .total ≡ 0 → r .largest .0 ≡ 0 → r .wire ≡ 0 → merged emptyReport r ≡ r
   unfolding merged emptyReport
   empty-left-none none d w =
-      let leads = lead-first (leader emptyReport) 0 (moved 0 r) (r .total) none ∙ ap₂ (λ (k x : ℕ). at-wire k x) (sym w) (sym d) in
+      let leads = lead-first (leader emptyReport) 0 (moved 0 (leader r)) (r .total) none ∙ ap₂ (λ (k x : ℕ). at-wire k x) (sym w) (sym d) in
       λ i. reported (counts-left i) (leads i) (zero-add (r .total) i)
 
 -- But a record of no wires that names a largest drift loses it behind the empty report.
@@ -182,9 +186,9 @@ module _ (a b : Report) where
   -- The first's, with its wire: where the second has no wires, or the first has some and the second's drift is not larger in absolute value.
   pub first-kept : (b .total ≡ 0) ⊎ ((a .total ≡ 0 → ⊥) × (magnitude (b .largest .0) ≤ magnitude (a .largest .0))) → leader (merged a b) ≡ leader a
   unfolding merged
-  first-kept = ⊎-elim (lead-first (leader a) (a .total) (moved (a .total) b) (b .total))
-      (λ h. ⊎-elim (lead-first (leader a) (a .total) (moved (a .total) b) (b .total))
-      (λ (some : 0 < b .total). lead-both (leader a) (a .total) (moved (a .total) b) (b .total) (λ e. omega arith) (h .0) ∙ ahead-first (leader a) (moved (a .total) b) (h .1))
+  first-kept = ⊎-elim (lead-first (leader a) (a .total) (moved (a .total) (leader b)) (b .total))
+      (λ h. ⊎-elim (lead-first (leader a) (a .total) (moved (a .total) (leader b)) (b .total))
+      (λ (some : 0 < b .total). lead-both (leader a) (a .total) (moved (a .total) (leader b)) (b .total) (λ e. omega arith) (h .0) ∙ ahead-first (leader a) (moved (a .total) (leader b)) (h .1))
       (eq-zero-or-pos (b .total)))
 
   -- 'A tie goes to the first report's wire.'
@@ -192,9 +196,9 @@ module _ (a b : Report) where
   tie-first some e = first-kept (inr (some, omega arith))
 
   -- Everywhere else the second's, its wire moved by the first's wires.
-  pub second-taken : (b .total ≡ 0 → ⊥) → (a .total ≡ 0) ⊎ (magnitude (a .largest .0) < magnitude (b .largest .0)) → leader (merged a b) ≡ moved (a .total) b
+  pub second-taken : (b .total ≡ 0 → ⊥) → (a .total ≡ 0) ⊎ (magnitude (a .largest .0) < magnitude (b .largest .0)) → leader (merged a b) ≡ moved (a .total) (leader b)
   unfolding merged
-  second-taken some = ⊎-elim (lead-second (leader a) (a .total) (moved (a .total) b) (b .total) some)
-      (λ h. ⊎-elim (lead-second (leader a) (a .total) (moved (a .total) b) (b .total) some)
-      (λ (more : 0 < a .total). lead-both (leader a) (a .total) (moved (a .total) b) (b .total) some (λ e. omega arith) ∙ ahead-second (leader a) (moved (a .total) b) h)
+  second-taken some = ⊎-elim (lead-second (leader a) (a .total) (moved (a .total) (leader b)) (b .total) some)
+      (λ h. ⊎-elim (lead-second (leader a) (a .total) (moved (a .total) (leader b)) (b .total) some)
+      (λ (more : 0 < a .total). lead-both (leader a) (a .total) (moved (a .total) (leader b)) (b .total) some (λ e. omega arith) ∙ ahead-second (leader a) (moved (a .total) (leader b)) h)
       (eq-zero-or-pos (a .total)))

@@ -13,6 +13,7 @@ use Rattle.ring.specs.Word.{Q}
 use Rattle.ring.proofs.Value.{by-test}
 use Rattle.drift_report.specs.declared.leading.Leader.{Leader}
 use Rattle.drift_report.specs.Leader.{ahead, leadOf}
+use Rattle.drift_report.specs.Merge.{moved}
 use Rattle.drift_report.proofs.Leaders.{at-wire, lead, ahead-assoc}
 
 module _ (a : Leader) (m : ℕ) (b : Leader) (n : ℕ) where
@@ -46,25 +47,21 @@ lead-assoc a m b n c p = ⊎-elim
     (eq-zero-or-pos n))
     (eq-zero-or-pos p)
 
--- A leader so many places further on, modulo 2^32.
-abbrev pub moved-by : ℕ → Leader → Leader
-moved-by k a = at-wire ((k + a .wire) % Q) (a .drift)
-
-lead-moved : (k : ℕ) (a : Leader) (m : ℕ) (b : Leader) (n : ℕ) → leadOf (moved-by k a) m (moved-by k b) n ≡ moved-by k (leadOf a m b n)
+lead-moved : (k : ℕ) (a : Leader) (m : ℕ) (b : Leader) (n : ℕ) → leadOf (moved k a) m (moved k b) n ≡ moved k (leadOf a m b n)
 unfolding leadOf ahead
 lead-moved k a m b n = by-test (eqb n 0)
-    (λ (none : Bool). cond none (moved-by k a) (cond (eqb m 0) (moved-by k b) (ahead (moved-by k a) (moved-by k b))) ≡ moved-by k (cond none a (cond (eqb m 0) b (ahead a b))))
+    (λ (none : Bool). cond none (moved k a) (cond (eqb m 0) (moved k b) (ahead (moved k a) (moved k b))) ≡ moved k (cond none a (cond (eqb m 0) b (ahead a b))))
     (λ t. refl)
-    (λ t. by-test (eqb m 0) (λ (none : Bool). cond none (moved-by k b) (ahead (moved-by k a) (moved-by k b)) ≡ moved-by k (cond none b (ahead a b)))
+    (λ t. by-test (eqb m 0) (λ (none : Bool). cond none (moved k b) (ahead (moved k a) (moved k b)) ≡ moved k (cond none b (ahead a b)))
     (λ u. refl)
-    (λ u. by-test (ltb (lead a) (lead b)) (λ (less : Bool). cond less (moved-by k b) (moved-by k a) ≡ moved-by k (cond less b a)) (λ v. refl) (λ v. refl)))
+    (λ u. by-test (ltb (lead a) (lead b)) (λ (less : Bool). cond less (moved k b) (moved k a) ≡ moved k (cond less b a)) (λ v. refl) (λ v. refl)))
 
-moved-twice : (j k : ℕ) (a : Leader) → moved-by j (moved-by k a) ≡ moved-by (j + k) a
+moved-twice : (j k : ℕ) (a : Leader) → moved j (moved k a) ≡ moved (j + k) a
 moved-twice j k a = ap (λ (w : ℕ). at-wire w (a .drift)) (add-mod-mod j (k + a .wire) Q ∙ ap (λ (w : ℕ). w % Q) (sym (add-assoc j k (a .wire))))
 
 -- Of three lists of wires, one after the other: each leader is moved by the wires before it.
 pub lead-order : (a : Leader) (m : ℕ) (b : Leader) (n : ℕ) (c : Leader) (p : ℕ)
-    → leadOf (leadOf a m (moved-by m b) n) (m + n) (moved-by (m + n) c) p ≡ leadOf a m (moved-by m (leadOf b n (moved-by n c) p)) (n + p)
+    → leadOf (leadOf a m (moved m b) n) (m + n) (moved (m + n) c) p ≡ leadOf a m (moved m (leadOf b n (moved n c) p)) (n + p)
 lead-order a m b n c p =
-    lead-assoc a m (moved-by m b) n (moved-by (m + n) c) p
-    ∙ ap (λ (x : Leader). leadOf a m x (n + p)) (ap (λ (x : Leader). leadOf (moved-by m b) n x p) (sym (moved-twice m n c)) ∙ lead-moved m b n (moved-by n c) p)
+    lead-assoc a m (moved m b) n (moved (m + n) c) p
+    ∙ ap (λ (x : Leader). leadOf a m x (n + p)) (ap (λ (x : Leader). leadOf (moved m b) n x p) (sym (moved-twice m n c)) ∙ lead-moved m b n (moved n c) p)

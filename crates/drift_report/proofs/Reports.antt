@@ -12,10 +12,10 @@ use Rattle.ring.specs.Bit.{bitNumber}
 use Rattle.ring.specs.Sums.{sumTo}
 use Rattle.ring.proofs.SumLaws.{sum-ext}
 use Rattle.ring.proofs.Tab.{at-tab, length-tab, tab-of}
-use Rattle.drift_size.specs.Size.{insideWord}
+use Rattle.drift_size.specs.Size.{magnitude, insideWord}
 use Rattle.drift_report.specs.declared.leading.Leader.{Leader}
 use Rattle.drift_report.specs.declared.Report.{Report}
-use Rattle.drift_report.specs.Size.{magnitude, bitsOf}
+use Rattle.drift_report.specs.Size.{bitsOf}
 use Rattle.drift_report.specs.Report.{sizes, countTo, reportOf}
 use Rattle.drift_report.proofs.Sizes.{inside-is-size}
 use Rattle.drift_report.proofs.Counts.{counts-sum, counts-within}

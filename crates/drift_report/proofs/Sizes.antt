@@ -13,13 +13,23 @@ use borrow.Author.Tests.{lt-ltb, le-ltb}
 use Rattle.ring.specs.Word.{Q}
 use Rattle.ring.specs.Centre.{H, centre}
 use Rattle.ring.proofs.Value.{by-test}
-use Rattle.drift_size.specs.Size.{insideWord}
-use Rattle.drift_report.specs.Size.{magnitude, bitsOf}
+use Rattle.drift_size.specs.Size.{magnitude, insideWord}
+use Rattle.drift_report.specs.Size.{bitsOf}
 
 pub magnitude-most : (d : ℕ) → magnitude d ≤ 2147483648
 unfolding centre H Q
 magnitude-most d = by-test (ltb d 2147483648) (λ (c : Bool). natAbs (cond c (pos d) (negsuc (4294967296 - suc d))) ≤ 2147483648)
     (λ t. let u = ltb→lt d 2147483648 t in omega arith) (λ t. let u = nltb→le d 2147483648 t in omega arith)
+
+-- The absolute value: a word up to 2^31 is its own, and one less than 2^32 by so much has that.
+pub magnitude-plain : (d : ℕ) → d < 2147483648 → magnitude d ≡ d
+unfolding centre H
+magnitude-plain d l = by-test (ltb d 2147483648) (λ (c : Bool). natAbs (cond c (pos d) (negsuc (Q - suc d))) ≡ d) (λ t. refl) (λ t. absurd (let u = nltb→le d 2147483648 t in let q : ⊥ = omega arith in q))
+
+pub magnitude-negated : (d : ℕ) → 0 < d → d ≤ 2147483648 → magnitude (Q - d) ≡ d
+unfolding centre H Q
+magnitude-negated d p l = by-test (ltb (4294967296 - d) 2147483648) (λ (c : Bool). natAbs (cond c (pos (4294967296 - d)) (negsuc (4294967296 - suc (4294967296 - d)))) ≡ d)
+    (λ t. absurd (let u = ltb→lt (4294967296 - d) 2147483648 t in let q : ⊥ = omega arith in q)) (λ t. omega arith)
 
 pub magnitude-none : magnitude 0 ≡ 0
 unfolding centre H

@@ -5,7 +5,7 @@ use Prim.Native.Nat.{ℕ, zero, suc}
 use lib.Dec.{eqb, ltb}
 use Rattle.ring.specs.Word.{at}
 use Rattle.drift_report.specs.declared.leading.Leader.{Leader}
-use Rattle.drift_report.specs.Size.{magnitude}
+use Rattle.drift_size.specs.Size.{magnitude}
 
 -- Of two the one whose drift is larger in absolute value, the first at a tie.
 unfoldable pub ahead : Leader → Leader → Leader

@@ -13,7 +13,7 @@ use utils::Torus;
 fn bits_of(drift: u32) -> u32
     ensures { λ r. ⌜ r ≡ bitsOf drift ⌝ }
 {
-    32 - u32::leading_zeros(drift_size::size_of(drift))
+    32 - u32::leading_zeros(drift_size::absolute(drift))
 }
 
 // The report.

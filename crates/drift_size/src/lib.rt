@@ -1,12 +1,10 @@
 // How large a drift is (01, Drift): words read as signed, their absolute values, and whether they are inside. Below `drift_run`, a crate of its own for what its edit costs.
 ghost use mathlib.Core.Path.{_≡_};
-ghost use lib.IntN.{natAbs};
-ghost use Rattle.ring.specs.Centre.{centre};
-ghost use Rattle.drift_size.specs.Size.{insideWord, worseWord};
+ghost use Rattle.drift_size.specs.Size.{magnitude, insideWord, worseWord};
 
 // The absolute value of a word that is read as signed.
-pub fn size_of(drift: u32) -> u32
-    ensures { λ r. ⌜ r ≡ natAbs (centre drift) ⌝ }
+pub fn absolute(drift: u32) -> u32
+    ensures { λ r. ⌜ r ≡ magnitude drift ⌝ }
 {
     if drift < 0x8000_0000 {
         return drift;
@@ -18,14 +16,14 @@ pub fn size_of(drift: u32) -> u32
 pub fn is_inside(drift: u32) -> bool
     ensures { λ r. ⌜ r ≡ insideWord drift ⌝ }
 {
-    size_of(drift) < 0x2000_0000
+    absolute(drift) < 0x2000_0000
 }
 
 // The one of two that is larger in absolute value, the first at a tie.
 pub fn worse(x: u32, y: u32) -> u32
     ensures { λ r. ⌜ r ≡ worseWord x y ⌝ }
 {
-    if size_of(x) < size_of(y) {
+    if absolute(x) < absolute(y) {
         return y;
     }
     x

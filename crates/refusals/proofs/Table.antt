@@ -103,7 +103,7 @@ module _ (p : Params) (checks : List Check) where
 -- ---- a table in two parts
 
 -- where the first part passes the second decides
-append-passed : (xs ys : List Check) → numbered xs ≡ true → firstOf xs ≡ 0 → firstOf (xs ++ ys) ≡ firstOf ys
+pub append-passed : (xs ys : List Check) → numbered xs ≡ true → firstOf xs ≡ 0 → firstOf (xs ++ ys) ≡ firstOf ys
 append-passed [] ys n e = refl
 append-passed (c ∷ cs) ys n e =
     let m = both _ _ n in
@@ -111,7 +111,7 @@ append-passed (c ∷ cs) ys n e =
     first-of c (cs ++ ys) ∙ ap (λ (b : Bool). check b (numberOf c) (firstOf (cs ++ ys))) (s .0) ∙ append-passed cs ys (m .1) (s .1)
 
 -- and where it does not, it does
-append-kept : (xs ys : List Check) → (firstOf xs ≡ 0 → ⊥) → firstOf (xs ++ ys) ≡ firstOf xs
+pub append-kept : (xs ys : List Check) → (firstOf xs ≡ 0 → ⊥) → firstOf (xs ++ ys) ≡ firstOf xs
 append-kept [] ys h = absurd (h refl)
 append-kept (c ∷ cs) ys h = first-of c (cs ++ ys) ∙ go (passes c) (λ k. append-kept cs ys k) (λ e. h (first-of c cs ∙ e)) ∙ sym (first-of c cs)
   where

@@ -11,7 +11,7 @@ use Rattle.drift_size.specs.Size.{insideWord}
 
 returns : tie.Need-returns
 unfolding insideWord
-returns c = ap (λ (x : ℕ). ltb x eighth) (c .size-of .ensures)
+returns c = ap (λ (x : ℕ). ltb x eighth) (c .absolute .ensures)
 
 pub is-inside-spec : {M : Type 1} → statement M
 is-inside-spec = tie.close

@@ -15,14 +15,14 @@ returns : tie.Need-returns
 unfolding worseWord
 returns c =
     let g = c .before .before .before .args in
-    let t : natAbs (centre (g .x)) < natAbs (centre (g .y)) = rw (c .before .before .size-of .ensures, c .before .size-of2 .ensures) at (c .if1 .taken) in
+    let t : natAbs (centre (g .x)) < natAbs (centre (g .y)) = rw (c .before .before .absolute .ensures, c .before .absolute2 .ensures) at (c .if1 .taken) in
     sym (ap (λ (b : Bool). cond b (g .y) (g .x)) (lt-ltb _ _ t))
 
 returns-2 : tie.Need-returns-2
 unfolding worseWord
 returns-2 c =
     let g = c .before .before .before .args in
-    let t : natAbs (centre (g .y)) ≤ natAbs (centre (g .x)) = rw (c .before .before .size-of .ensures, c .before .size-of2 .ensures) at (c .if1 .left) in
+    let t : natAbs (centre (g .y)) ≤ natAbs (centre (g .x)) = rw (c .before .before .absolute .ensures, c .before .absolute2 .ensures) at (c .if1 .left) in
     sym (ap (λ (b : Bool). cond b (g .y) (g .x)) (le-ltb _ _ t))
 
 pub worse-spec : {M : Type 1} → statement M

@@ -1,50 +1,48 @@
--- `drift_report::as_words::report_into` meets its contract: the words of the drifts' report, where neither slice is at fault.
+-- `drift_report::as_words::report_into` meets its contract: the slice's length is checked first, and what `report_of` tells is written.
 -- Assumes nothing.
-use mathlib.Core.Path.{_≡_, refl, sym, ap, _∙_}
+use mathlib.Core.Path.{refl, sym, ap, _∙_}
+use mathlib.Core.List.{List, [], _∷_}
 use Prim.Native.Nat.{ℕ}
-use lib.Dec.{leb}
 use lib.ListN.{length}
 use denote.Ref.{now}
 use borrow.Author.Needs.{needs}
 use Rattle.params.specs.Refusal.{answer}
-use Rattle.params.proofs.Answers.{kept, done}
-use Rattle.refusals.specs.Table.{also}
-use Rattle.refusals.specs.Private.{Facts}
-use Rattle.refusals.proofs.Table.{chain-first, facts}
-use Rattle.drift_report.specs.Report.{wiresMost}
-use Rattle.drift_report.specs.Words.{reportWords, reportChecks, reportNumber}
+use Rattle.params.proofs.Answers.{kept}
+use Rattle.refusals.specs.Table.{Check, is, atMost}
+use Rattle.refusals.proofs.Table.{facts, append-kept, append-passed}
+use Rattle.drift_report.specs.Report.{reportOf, wiresMost, wiresNumber}
+use Rattle.drift_report.specs.Words.{wordsOfReport}
+use Rattle.drift_report.proofs.Told.{told-said, told-written}
 use Rattle.drift_report.proofs.as_words.report_into.Statement.{statement}
 use Rattle.drift_report.proofs.as_words.report_into.Tie as tie
 
--- the line of checks comes to the table's number
-numbered : (c : tie.After-at-most) → let a = c .before .before .before .before .args in c .at-most .result ≡ reportNumber (length (now (a .drifts))) (length (now (a .out)))
-numbered c =
-    let a = c .before .before .before .before .args in
-    let wires = length (now (a .drifts)) in
-    c .at-most .ensures
-    ∙ ap (λ (n : ℕ). also n (leb wires wiresMost) 13) (c .before .is .ensures)
-    ∙ chain-first (reportChecks wires (length (now (a .out)))) refl
+-- the table in two parts: the length, then the wires
+abbrev lengths : ℕ → List Check
+lengths out = is out wordsOfReport 2 ∷ []
 
--- where it is 0, the slice has its length and the wires are few enough
-good : (c : tie.Then1) → let a = c .before .before .before .before .before .args in Facts (reportChecks (length (now (a .drifts))) (length (now (a .out))))
-good c =
-    let a = c .before .before .before .before .before .args in
-    facts (reportChecks (length (now (a .drifts))) (length (now (a .out)))) refl (sym (numbered (c .before)) ∙ c .if1 .taken)
-
-counted-requires : tie.Need-counted-requires
-counted-requires c κs = good c .1 .0
-
-put-requires : tie.Need-put-requires
-put-requires c κs = good (c .before .before) .0
+abbrev wires : ℕ → List Check
+wires drifts = atMost drifts wiresMost 13 ∷ []
 
 returns : tie.Need-returns
 returns c =
-    let n = numbered (c .before .before .before .before .before .before) in
-    (ap answer n, done _ _ _ (sym n ∙ c .before .before .before .before .before .if1 .taken) (c .before .before .put .ensures ∙ ap reportWords (c .before .before .before .before .counted .ensures)))
+    let a = c .before .before .before .before .args in
+    let s = c .before .is .ensures in
+    let n = s ∙ sym (append-kept (lengths (length (now (a .out)))) (wires (length (now (a .drifts)))) (λ e. c .if1 .taken (s ∙ e))) in
+    (ap answer n, kept _ _ _ (λ e. c .if1 .taken (n ∙ e)))
+
+put-told-requires : tie.Need-put-told-requires
+put-told-requires c κs = facts (lengths (length (now (c .before .before .before .before .before .before .args .out)))) refl (sym (c .before .before .before .is .ensures) ∙ c .before .before .if1 .left) .0
 
 returns-2 : tie.Need-returns-2
-returns-2 c = let n = numbered (c .before) in (ap answer n, kept _ _ _ (λ e. c .if1 .left (n ∙ e)))
+unfolding wiresNumber
+returns-2 c =
+    let a = c .before .before .before .before .before .before .before .before .before .args in
+    let e = append-passed (lengths (length (now (a .out)))) (wires (length (now (a .drifts)))) refl (sym (c .before .before .before .before .before .before .is .ensures) ∙ c .before .before .before .before .before .if1 .left) in
+    let t = c .before .before .before .before .report-of .ensures in
+    let w = c .before .before .put-told .ensures in
+    let r = reportOf (now (a .drifts)) in
+    (told-said e r t (w .0), told-written e r t (now (a .out)) (w .1))
 
 pub report-into-spec : {M : Type 1} → statement M
 report-into-spec = tie.close
-    (tie.spec (λ c κs. search needs) (λ c κs. search needs) counted-requires put-requires (λ c. search needs) returns returns-2)
+    (tie.spec (λ c κs. search needs) returns (λ c κs. search needs) put-told-requires (λ c. search needs) returns-2)

@@ -9,7 +9,7 @@ use Rattle.drift_report.proofs.one_pass.bits_of.Tie as tie
 
 returns : tie.Need-returns
 unfolding bitsOf
-returns c = ap (λ (x : ℕ). 32 - leadingZeros 32 x) (c .size-of .ensures)
+returns c = ap (λ (x : ℕ). 32 - leadingZeros 32 x) (c .absolute .ensures)
 
 pub bits-of-spec : {M : Type 1} → statement M
-bits-of-spec = tie.close (tie.spec (λ c κs. tt) (λ c. leading-le 32 (c .size-of .result)) returns)
+bits-of-spec = tie.close (tie.spec (λ c κs. tt) (λ c. leading-le 32 (c .absolute .result)) returns)

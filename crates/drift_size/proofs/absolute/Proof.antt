@@ -1,4 +1,4 @@
--- `drift_size::size_of` meets its contract: a word below 2^31 is its own number, any other that of its negative.
+-- `drift_size::absolute` meets its contract: a word below 2^31 is its own number, any other that of its negative.
 -- Assumes nothing.
 use mathlib.Core.Path.{_∙_}
 use native.Mathlib.Omega.{arith}
@@ -6,8 +6,8 @@ use borrow.Author.Tests.{lt-ltb, le-ltb}
 use Rattle.ring.specs.Word.{Q, neg}
 use Rattle.ring.specs.Centre.{H, centre}
 use borrow.Author.Needs.{needs}
-use Rattle.drift_size.proofs.size_of.Statement.{statement}
-use Rattle.drift_size.proofs.size_of.Tie as tie
+use Rattle.drift_size.proofs.absolute.Statement.{statement}
+use Rattle.drift_size.proofs.absolute.Tie as tie
 
 returns : tie.Need-returns
 unfolding centre H
@@ -17,6 +17,6 @@ returns-2 : tie.Need-returns-2
 unfolding centre H Q neg
 returns-2 c = rw (le-ltb (c .before .before .args .drift) 2147483648 (omega arith)) (c .negated .ensures ∙ omega arith)
 
-pub size-of-spec : {M : Type 1} → statement M
-size-of-spec = tie.close
+pub absolute-spec : {M : Type 1} → statement M
+absolute-spec = tie.close
     (tie.spec returns (λ c κs. search needs) returns-2)
