@@ -1,4 +1,4 @@
--- The laws of lists' reports, of calls: what a call tells by its contract, as `rattle` reads that from the code, is what the laws speak of (`report-of-tells`, `merge-tells`), and merging the words of
+-- The laws of lists' reports, of calls: what a call tells by its contract, as `rattle` reads that from the code, is what the laws and computed cases speak of (`report-of-tells`, `merge-tells` and their like, one for each public routine), and merging the words of
 -- two lists' reports tells and writes what reporting both lists does (`merge-into-merges`). By computation, and the laws of reports as words. So a contract that is changed together with its code is refused here.
 -- Assumes nothing.
 use mathlib.Core.Path.{_≡_, refl, sym, ap, ap₂, _∙_}
@@ -14,13 +14,16 @@ use denote.Triple.Clauses.{Lasts, atExit}
 use Rattle.ring.proofs.Value.{by-test}
 use Rattle.params.specs.Refusal.{answer, ifDone}
 use Rattle.refusals.proofs.Table.{facts}
-use Rattle.drift_report.specs.Report.{reportOf, wiresMost}
+use Rattle.drift_report.specs.Report.{emptyReport, reportOf, wiresMost}
 use Rattle.drift_report.specs.Merge.{merged}
-use Rattle.drift_report.specs.Words.{reportWords, reportFrom, reportChecks, reportNumber, mergeNumber}
+use Rattle.drift_report.specs.Words.{reportWords, reportFrom, emptyNumber, reportChecks, reportNumber, mergeNumber}
 use Rattle.drift_report.proofs.AsWords.{words-merged, words-refused}
 use Rattle.drift_report.proofs.Merges.{mergeTold, reportTold}
 use Rattle.drift_report.proofs.report_of as report-of
 use Rattle.drift_report.proofs.merge as merge
+use Rattle.drift_report.proofs.empty as empty
+use Rattle.drift_report.proofs.as_words.empty_into as empty-into
+use Rattle.drift_report.proofs.as_words.report_into as report-into
 use Rattle.drift_report.proofs.as_words.merge_into as merge-into
 
 pub merge-tells : (κs : Lfts (merge.ended .signature .lifetimes)) (a : Args (merge.ended .signature) κs) (x : Res (merge.ended .signature) κs) (v : Lasts merge.ended κs a)
@@ -30,6 +33,24 @@ merge-tells κs a x v h = h
 pub report-of-tells : (κs : Lfts (report-of.ended .signature .lifetimes)) (a : Args (report-of.ended .signature) κs) (x : Res (report-of.ended .signature) κs) (v : Lasts report-of.ended κs a)
     → report-of.Reads.Learnt κs a x (atExit report-of.ended κs a v) → x ≡ reportTold (now (a .0))
 report-of-tells κs a x v h = h
+
+pub empty-tells : (κs : Lfts (empty.ended .signature .lifetimes)) (a : Args (empty.ended .signature) κs) (x : Res (empty.ended .signature) κs) (v : Lasts empty.ended κs a)
+    → empty.Reads.Learnt κs a x (atExit empty.ended κs a v) → x ≡ emptyReport
+empty-tells κs a x v h = h
+
+-- of calls on words: the answer, and what the slice holds afterwards
+pub empty-into-tells : (κs : Lfts (empty-into.ended .signature .lifetimes)) (a : Args (empty-into.ended .signature) κs) (x : Res (empty-into.ended .signature) κs) (v : Lasts empty-into.ended κs a)
+    → empty-into.Reads.Learnt κs a x (atExit empty-into.ended κs a v) → let out = now (a .0) in let number = emptyNumber (length out) in (x ≡ answer number) × (v .0 ≡ ifDone number (reportWords emptyReport) out)
+empty-into-tells κs a x v h = h
+
+pub report-into-tells : (κs : Lfts (report-into.ended .signature .lifetimes)) (a : Args (report-into.ended .signature) κs) (x : Res (report-into.ended .signature) κs) (v : Lasts report-into.ended κs a)
+    → report-into.Reads.Learnt κs a x (atExit report-into.ended κs a v) → let ds = now (a .0) in let out = now (a .1 .0) in let number = reportNumber (length ds) (length out) in (x ≡ answer number) × (v .1 .0 ≡ ifDone number (reportWords (reportOf ds)) out)
+report-into-tells κs a x v h = h
+
+pub merge-into-tells : (κs : Lfts (merge-into.ended .signature .lifetimes)) (a : Args (merge-into.ended .signature) κs) (x : Res (merge-into.ended .signature) κs) (v : Lasts merge-into.ended κs a)
+    → merge-into.Reads.Learnt κs a x (atExit merge-into.ended κs a v) → let first = now (a .0) in let second = now (a .1 .0) in let out = now (a .1 .1 .0) in let number = mergeNumber first second (length out) in
+    (x ≡ answer number) × (v .1 .1 .0 ≡ ifDone number (reportWords (merged (reportFrom first) (reportFrom second))) out)
+merge-into-tells κs a x v h = h
 
 -- where a call of two lists' reports is not refused they have few enough wires
 few-wires : (xs ys : List ℕ) (out : ℕ) → reportNumber (length (xs ++ ys)) out ≡ 0 → length xs + length ys ≤ wiresMost

@@ -1,3 +1,4 @@
 pub mod Examples
 pub mod Determined
 pub mod DeterminedRuns
+pub mod Contracts

@@ -1,0 +1,33 @@
+-- What the exports of reports tell, by their contracts as `rattle` reads them from the code, is what the laws and computed cases of drift_report speak of: by computation. So a contract that is changed
+-- together with its code is refused here.
+-- Assumes nothing.
+use mathlib.Core.Path.{_≡_}
+use lib.ListN.{length}
+use contract.Lifetimes.{Lfts}
+use denote.Ref.{now}
+use denote.Triple.Entry.{Args, Res}
+use denote.Triple.Clauses.{Lasts, atExit}
+use Rattle.params.specs.Refusal.{answer, ifDone}
+use Rattle.packing.specs.Packed.{packed}
+use Rattle.drift_report.specs.Report.{emptyReport, reportOf}
+use Rattle.drift_report.specs.Merge.{merged}
+use Rattle.drift_report.specs.Words.{reportWords, reportFrom, emptyNumber, reportNumber, mergeNumber}
+use Rattle.egl_c.proofs.drift_report_c.egl_drift_report_empty as egl-drift-report-empty
+use Rattle.egl_c.proofs.drift_report_c.egl_drift_report_of as egl-drift-report-of
+use Rattle.egl_c.proofs.drift_report_c.egl_drift_report_merge as egl-drift-report-merge
+
+pub egl-drift-report-empty-tells : (κs : Lfts (egl-drift-report-empty.ended .signature .lifetimes)) (a : Args (egl-drift-report-empty.ended .signature) κs)
+    (x : Res (egl-drift-report-empty.ended .signature) κs) (v : Lasts egl-drift-report-empty.ended κs a) → egl-drift-report-empty.Reads.Learnt κs a x (atExit egl-drift-report-empty.ended κs a v)
+    → let out = now (a .0) in let number = emptyNumber (length out) in (x ≡ packed (answer number)) × (v .0 ≡ ifDone number (reportWords emptyReport) out)
+egl-drift-report-empty-tells κs a x v h = h
+
+pub egl-drift-report-of-tells : (κs : Lfts (egl-drift-report-of.ended .signature .lifetimes)) (a : Args (egl-drift-report-of.ended .signature) κs)
+    (x : Res (egl-drift-report-of.ended .signature) κs) (v : Lasts egl-drift-report-of.ended κs a) → egl-drift-report-of.Reads.Learnt κs a x (atExit egl-drift-report-of.ended κs a v)
+    → let ds = now (a .0) in let out = now (a .1 .0) in let number = reportNumber (length ds) (length out) in (x ≡ packed (answer number)) × (v .1 .0 ≡ ifDone number (reportWords (reportOf ds)) out)
+egl-drift-report-of-tells κs a x v h = h
+
+pub egl-drift-report-merge-tells : (κs : Lfts (egl-drift-report-merge.ended .signature .lifetimes)) (a : Args (egl-drift-report-merge.ended .signature) κs)
+    (x : Res (egl-drift-report-merge.ended .signature) κs) (v : Lasts egl-drift-report-merge.ended κs a) → egl-drift-report-merge.Reads.Learnt κs a x (atExit egl-drift-report-merge.ended κs a v)
+    → let first = now (a .0) in let second = now (a .1 .0) in let out = now (a .1 .1 .0) in let number = mergeNumber first second (length out) in
+    (x ≡ packed (answer number)) × (v .1 .1 .0 ≡ ifDone number (reportWords (merged (reportFrom first) (reportFrom second))) out)
+egl-drift-report-merge-tells κs a x v h = h
