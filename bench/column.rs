@@ -2,7 +2,7 @@
 
 use crate::library;
 use crate::measure::{least, print, table, way, Time};
-use crate::{words, N, SET};
+use crate::{words, N, ROWS, SET};
 use std::hint::black_box;
 
 const CALLS: &str = "a call of nand for each pair";
@@ -23,7 +23,7 @@ impl Pairs {
         let mut set = SET;
         set[0] = n;
         let n = n as usize;
-        Pairs { set, switching: words(4 * 9 * N * (n + 1), 11), key: words(n * 12 * N, 9), pairs: words(count * 2 * (n + 1), 18) }
+        Pairs { set, switching: words(ROWS * (n + 1), 11), key: words(n * 12 * N, 9), pairs: words(count * 2 * (n + 1), 18) }
     }
 
     fn calls(&self, out: &mut [u32]) {

@@ -19,6 +19,8 @@ use std::hint::black_box;
 /// The published 128-bit set: n, NBIT, BGBIT, L, BASEBIT, T.
 const SET: [u32; 6] = [700, 10, 6, 3, 2, 9];
 const N: usize = 1024;
+/// The rows of its switching key, n + 1 words each.
+const ROWS: usize = 3 * 9 * N;
 
 /// Words to compute with: splitmix64.
 fn words(len: usize, seed: u64) -> Vec<u32> {
@@ -89,7 +91,7 @@ fn rotations() {
     let n = SET[0] as usize;
     let (rows, a, b) = (words(12 * N, 6), words(N, 7), words(N, 8));
     let (key, src) = (words(n * 12 * N, 9), words(n + 1, 10));
-    let (switching, long) = (words(4 * 9 * N * (n + 1), 11), words(N + 1, 12));
+    let (switching, long) = (words(ROWS * (n + 1), 11), words(N + 1, 12));
     let (mut x, mut y, mut o) = (vec![0; N], vec![0; N], vec![0; N]);
     let (mut s1, mut s2) = (vec![0; n + 1], vec![0; n + 1]);
     library::switch(&SET, &long, &switching, &mut s1);
@@ -119,7 +121,7 @@ fn rotations() {
 fn gate() {
     let n = SET[0] as usize;
     let (a, b) = (words(N, 7), words(N, 8));
-    let (key, switching, long) = (words(n * 12 * N, 9), words(4 * 9 * N * (n + 1), 11), words(N + 1, 12));
+    let (key, switching, long) = (words(n * 12 * N, 9), words(ROWS * (n + 1), 11), words(N + 1, 12));
     let (c, d) = (words(n + 1, 13), words(n + 1, 14));
     let digits: Vec<u32> = a.iter().map(|x| (x & 63).wrapping_sub(32)).collect();
     let turn = transform::Transform::new(N);
@@ -178,7 +180,7 @@ const NOT_MUX: [u8; 29] = [b'E', b'G', b'L', 1, 0, 3, 0, 2, 0, 1, 0, 2, 0, 0, 0,
 fn drifts() {
     let n = SET[0] as usize;
     // The time does not depend on what keys and ciphertexts hold.
-    let (key, switching, ins) = (words(n * 12 * N, 9), words(4 * 9 * N * (n + 1), 11), words(3 * (n + 1), 13));
+    let (key, switching, ins) = (words(n * 12 * N, 9), words(ROWS * (n + 1), 11), words(3 * (n + 1), 13));
     let bits = |len: usize, seed: u64| -> Vec<u32> { words(len, seed).iter().map(|x| x >> 31).collect() };
     let (level0, level1) = (bits(n, 16), bits(N, 17));
     let (mut w1, mut w2, mut o1, mut o2, mut drifts) = (vec![0; 5 * (n + 1)], vec![1; 5 * (n + 1)], vec![0; n + 1], vec![1; n + 1], vec![0; 5]);

@@ -76,6 +76,7 @@ pub fn decrypt_checked(c: &[u32], key: &[u32]) -> Option<bool> {
     (all <= 1).then_some(c[key.len()].wrapping_sub(sum) as i32 >= 0)
 }
 
+/// Key switching; row (i, j, k), k from 1, stands at (BASE - 1)·(T·i + j) + k - 1.
 pub fn switch(src: &[u32], key: &[u32], n: usize, basebit: u32, t: u32, out: &mut [u32]) {
     let (ring, base) = (src.len() - 1, 1usize << basebit);
     out.fill(0);
@@ -85,7 +86,7 @@ pub fn switch(src: &[u32], key: &[u32], n: usize, basebit: u32, t: u32, out: &mu
         for j in 0..t as usize {
             let k = (a >> (32 - (j as u32 + 1) * basebit)) as usize & (base - 1);
             if k != 0 {
-                let row = (base * t as usize * i + base * j + k) * (n + 1);
+                let row = ((base - 1) * (t as usize * i + j) + k - 1) * (n + 1);
                 for (o, r) in out.iter_mut().zip(&key[row..row + n + 1]) {
                     *o = o.wrapping_sub(*r);
                 }

@@ -2,7 +2,7 @@
 
 use crate::library::{self, Lent};
 use crate::measure::{table, way};
-use crate::{words, N, SET};
+use crate::{words, N, ROWS, SET};
 use std::hint::black_box;
 
 /// Three inputs; a nand of the first two, and a nand of that and the third.
@@ -15,7 +15,7 @@ pub fn run() {
     assert!(library::work(&TWO_NANDS) == 2 && library::work(&ONE_MUX) == 2, "another work");
     let n = SET[0] as usize;
     // what keys and ciphertexts hold decides only how many rows a switching subtracts
-    let (key, switching, ins) = (words(n * 12 * N, 9), words(4 * 9 * N * (n + 1), 11), words(3 * (n + 1), 13));
+    let (key, switching, ins) = (words(n * 12 * N, 9), words(ROWS * (n + 1), 11), words(3 * (n + 1), 13));
     let run = |circuit: &[u8], wires: usize| {
         let (mut wires, mut out) = (vec![0; wires * (n + 1)], vec![0; n + 1]);
         library::run_encrypted(black_box(&SET), Lent { keys: black_box([&switching, &key]), circuit: black_box(circuit), ins: black_box(&ins), wires: &mut wires, out: &mut out });

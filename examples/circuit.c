@@ -8,9 +8,9 @@
 #include <stdlib.h>
 
 enum { n = 20, nbit = 7, bgbit = 7, l = 3, basebit = 3, t = 5 };
-enum { N = 1 << nbit, base = 1 << basebit, inputs = 3, gates = 3, outputs = 2, ciphertext = n + 1 };
-enum { ksk_len = N * t * base * ciphertext, bsk_len = n * 4 * l * N };
 #define P n, nbit, bgbit, l, basebit, t
+enum { N = 1 << nbit, inputs = 3, gates = 3, outputs = 2, ciphertext = n + 1 };
+enum { ksk_len = EGL_SWITCHING_WORDS(P), bsk_len = EGL_BOOTSTRAPPING_WORDS(P) };
 
 /* Wires 0, 1, 2 are a, b and the carry c; 3 = a xor b, 4 = (a xor b) xor c is the sum, 5 = c where a and b differ, else a, is the next carry. */
 static const uint8_t adder[] = {

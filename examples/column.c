@@ -8,9 +8,9 @@
 #include <string.h>
 
 enum { n = 20, nbit = 7, bgbit = 7, l = 3, basebit = 3, t = 5 };
-enum { N = 1 << nbit, base = 1 << basebit, ciphertext = n + 1, count = 4 };
-enum { ksk_len = N * t * base * ciphertext, bsk_len = n * 4 * l * N };
 #define P n, nbit, bgbit, l, basebit, t
+enum { N = 1 << nbit, ciphertext = n + 1, count = 4 };
+enum { ksk_len = EGL_SWITCHING_WORDS(P), bsk_len = EGL_BOOTSTRAPPING_WORDS(P) };
 
 /* bit i of `meant` is the result for the pair whose bits i counts, a lowest */
 static const struct { const char *name; size_t kind; unsigned meant; } kinds[] = {

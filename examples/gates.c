@@ -63,15 +63,15 @@ static void show(const char *name, egl_answer answer, const uint32_t *out, unsig
 int main(int count, char **args) {
     if (count > 1 && strcmp(args[1], "128") == 0) set = (struct set){700, 10, 6, 3, 2, 9, 15, 5};
     const size_t n = set.n, N = (size_t)1 << set.nbit, base = (size_t)1 << set.basebit;
-    const size_t drawing = N * set.t * (base - 1), ksk_len = N * set.t * base * (n + 1), bsk_masks = n * 2 * set.l * N, bsk_len = 2 * bsk_masks;
+    const size_t rows = (base - 1) * set.t * N, ksk_len = rows * (n + 1), bsk_masks = n * 2 * set.l * N, bsk_len = 2 * bsk_masks;
     uint32_t *key1 = words(N), *ksk = words(ksk_len), *bsk = words(bsk_len);
-    uint32_t *masks = words(drawing * n > bsk_masks ? drawing * n : bsk_masks), *errors = words(drawing > bsk_masks ? drawing : bsk_masks);
+    uint32_t *masks = words(rows * n > bsk_masks ? rows * n : bsk_masks), *errors = words(rows > bsk_masks ? rows : bsk_masks);
     key0 = words(n);
     draw_key(key0, n);
     draw_key(key1, N);
-    draw(masks, drawing * n);
-    for (size_t i = 0; i < drawing; i++) errors[i] = noise(set.wide0);
-    done("switching key", egl_key_gen_key_switching_key(P, key0, n, key1, N, masks, drawing * n, errors, drawing, ksk, ksk_len));
+    draw(masks, rows * n);
+    for (size_t i = 0; i < rows; i++) errors[i] = noise(set.wide0);
+    done("switching key", egl_key_gen_key_switching_key(P, key0, n, key1, N, masks, rows * n, errors, rows, ksk, ksk_len));
     draw(masks, bsk_masks);
     for (size_t i = 0; i < bsk_masks; i++) errors[i] = noise(set.wide1);
     done("bootstrapping key", egl_trgsw_gen_bootstrapping_key(P, key0, n, key1, N, masks, bsk_masks, errors, bsk_masks, bsk, bsk_len));

@@ -8,9 +8,9 @@
 #include <string.h>
 
 enum { n = 20, nbit = 7, bgbit = 7, l = 3, basebit = 3, t = 5 };
-enum { N = 1 << nbit, base = 1 << basebit, inputs = 3, gates = 4, outputs = 2, ciphertext = n + 1, wires_count = inputs + gates };
-enum { ksk_len = N * t * base * ciphertext, bsk_len = n * 4 * l * N };
 #define P n, nbit, bgbit, l, basebit, t
+enum { N = 1 << nbit, inputs = 3, gates = 4, outputs = 2, ciphertext = n + 1, wires_count = inputs + gates };
+enum { ksk_len = EGL_SWITCHING_WORDS(P), bsk_len = EGL_BOOTSTRAPPING_WORDS(P) };
 
 /* the calls take a report as words, and EGL_DRIFT_REPORT hands a struct over: that is right only while it is these words and nothing more */
 _Static_assert(sizeof(egl_drift_report) == 4 * EGL_DRIFT_REPORT_WORDS, "egl_drift_report has padding, or another number of words than the calls take");

@@ -92,10 +92,10 @@ static int nothing_lent(void) {
     return good;
 }
 
-/* Whether each published set is in range and its switching key has the length that the header works out. */
+/* Whether each published set is in range and its switching key has the length that the header works out; it has no row with k = 0. */
 static int sets_known(void) {
     int good = 1;
-#define KNOWN(set) good &= egl_params_check(set) == 0 && egl_key_switching_row_answer(set, EGL_SWITCHING_WORDS(set), 0, 0, 0) == 0
+#define KNOWN(set) good &= egl_params_check(set) == 0 && egl_key_switching_row_answer(set, EGL_SWITCHING_WORDS(set), 0, 0, 1) == 0 && egl_key_switching_row_answer(set, EGL_SWITCHING_WORDS(set), 0, 0, 0) == 3
     KNOWN(EGL_SET_80);
     KNOWN(EGL_SET_110);
     KNOWN(EGL_SET_128);

@@ -41,7 +41,7 @@ extern "C" {
 
 /* The interface that this header describes. One more with each release in which a function is added, taken away or changed: where egl_version() gives another number, header and
  * archive do not belong together. */
-#define EGL_VERSION 5
+#define EGL_VERSION 6
 
 /* The interface that the archive has. */
 uint32_t egl_version(void);
@@ -92,17 +92,20 @@ typedef uint64_t egl_answer;
 #define EGL_SET_UINT6_NOISE_LV1 2.2204460492503131e-17
 
 /* Lengths in words for six numbers in range, which may be one of the sets: EGL_SWITCHING_WORDS(EGL_SET_128). A ciphertext at level 0 or at level 1; the
- * switching key, and the masks and the noise that its generation is lent; the bootstrapping key, and its masks, which are as many as its noise. */
+ * switching key, the masks and the noise that its generation is lent, and the switching key as it was up to version 5 (see egl_key_drop_idle_rows); the
+ * bootstrapping key, and its masks, which are as many as its noise. */
 #define EGL_CIPHERTEXT_WORDS(...) EGL_CIPHERTEXT_WORDS_(__VA_ARGS__)
 #define EGL_CIPHERTEXT_WORDS_(n, nbit, bgbit, l, basebit, t) ((size_t)(n) + 1)
 #define EGL_CIPHERTEXT_LV1_WORDS(...) EGL_CIPHERTEXT_LV1_WORDS_(__VA_ARGS__)
 #define EGL_CIPHERTEXT_LV1_WORDS_(n, nbit, bgbit, l, basebit, t) (((size_t)1 << (nbit)) + 1)
 #define EGL_SWITCHING_WORDS(...) EGL_SWITCHING_WORDS_(__VA_ARGS__)
-#define EGL_SWITCHING_WORDS_(n, nbit, bgbit, l, basebit, t) (((size_t)(t) << ((nbit) + (basebit))) * ((size_t)(n) + 1))
+#define EGL_SWITCHING_WORDS_(n, nbit, bgbit, l, basebit, t) (((size_t)(t) << (nbit)) * (((size_t)1 << (basebit)) - 1) * ((size_t)(n) + 1))
 #define EGL_SWITCHING_MASKS(...) EGL_SWITCHING_MASKS_(__VA_ARGS__)
 #define EGL_SWITCHING_MASKS_(n, nbit, bgbit, l, basebit, t) (((size_t)(t) << (nbit)) * (((size_t)1 << (basebit)) - 1) * (size_t)(n))
 #define EGL_SWITCHING_NOISE(...) EGL_SWITCHING_NOISE_(__VA_ARGS__)
 #define EGL_SWITCHING_NOISE_(n, nbit, bgbit, l, basebit, t) (((size_t)(t) << (nbit)) * (((size_t)1 << (basebit)) - 1))
+#define EGL_FORMER_SWITCHING_WORDS(...) EGL_FORMER_SWITCHING_WORDS_(__VA_ARGS__)
+#define EGL_FORMER_SWITCHING_WORDS_(n, nbit, bgbit, l, basebit, t) (((size_t)(t) << ((nbit) + (basebit))) * ((size_t)(n) + 1))
 #define EGL_BOOTSTRAPPING_WORDS(...) EGL_BOOTSTRAPPING_WORDS_(__VA_ARGS__)
 #define EGL_BOOTSTRAPPING_WORDS_(n, nbit, bgbit, l, basebit, t) ((size_t)(n) * 4 * (size_t)(l) << (nbit))
 #define EGL_BOOTSTRAPPING_MASKS(...) EGL_BOOTSTRAPPING_MASKS_(__VA_ARGS__)
@@ -208,12 +211,17 @@ egl_answer egl_key_decomposition_offset(EGL_PARAMS);
 /* The test vector: a zero, b an eighth of a turn in each of its N words. Refusals 1, 2. */
 egl_answer egl_key_gen_testvec(EGL_PARAMS, uint32_t *a, size_t a_len, uint32_t *b, size_t b_len);
 
-/* The switching key, 2^basebit * t * N rows of n + 1 words: row (i, j, k), at 2^basebit * t * i + 2^basebit * j + k, encrypts k * key_lv1[i] * 2^(32 - (j + 1) * basebit).
- * Rows with k = 0 are zero; the others draw, in row order, n masks and one noise word each: masks has N * t * (2^basebit - 1) * n words, noise
- * N * t * (2^basebit - 1). key_lv0 has n words, key_lv1 N. Refusals 1, 2, 4. */
+/* The switching key, (2^basebit - 1) * t * N rows of n + 1 words: row (i, j, k), k from 1 to 2^basebit - 1, at (2^basebit - 1) * (t * i + j) + k - 1, encrypts
+ * k * key_lv1[i] * 2^(32 - (j + 1) * basebit). Each draws, in row order, n masks and one noise word: masks has (2^basebit - 1) * t * N * n words, noise
+ * (2^basebit - 1) * t * N. key_lv0 has n words, key_lv1 N. Refusals 1, 2, 4. */
 egl_answer egl_key_gen_key_switching_key(EGL_PARAMS, const uint32_t *key_lv0, size_t key_lv0_len, const uint32_t *key_lv1, size_t key_lv1_len, const uint32_t *masks, size_t masks_len, const uint32_t *noise, size_t noise_len, uint32_t *out, size_t out_len);
 
-/* What a lookup of row (i, j, k) in a switching key of so many words is answered. Refusals 1, 2, 3. */
+/* For keys that were made up to version 5 of this interface. They had idle rows, those with k = 0, which nothing read: row (i, j, k), k from 0, stood at
+ * 2^basebit * (t * i + j) + k. out becomes the key as it is now: the other rows word for word; the idle ones are dropped, whatever they hold. former has
+ * 2^basebit * t * N * (n + 1) words (EGL_FORMER_SWITCHING_WORDS), out (2^basebit - 1) * t * N * (n + 1). Bootstrapping keys are as they were. Refusals 1, 2. */
+egl_answer egl_key_drop_idle_rows(EGL_PARAMS, const uint32_t *former, size_t former_len, uint32_t *out, size_t out_len);
+
+/* What a lookup of row (i, j, k) in a switching key of so many words is answered: i is below N, j below t, k from 1 to 2^basebit - 1. Refusals 1, 2, 3. */
 egl_answer egl_key_switching_row_answer(EGL_PARAMS, size_t words, size_t i, size_t j, size_t k);
 
 /* The place of that row among the rows, as the value: its first word stands at (n + 1) times this. Refusals 1, 3. */
@@ -247,7 +255,8 @@ egl_answer egl_trgsw_blind_rotate_step(EGL_PARAMS, const uint32_t *key, size_t k
 /* The blind rotation of the test vector by the level-0 ciphertext src. Refusals 1, 2. */
 egl_answer egl_trgsw_blind_rotate(EGL_PARAMS, const uint32_t *src, size_t src_len, const uint32_t *key, size_t key_len, uint32_t *a, size_t a_len, uint32_t *b, size_t b_len);
 
-/* A level-1 ciphertext src (N + 1 words) under the level-0 key; no word of out depends on the rows with k = 0, which may hold anything. Refusals 1, 2. */
+/* A level-1 ciphertext src (N + 1 words) under the level-0 key; ksk is the switching key, of which the rows that the fields of src choose are subtracted. A field of 0
+ * chooses none, and no word of out depends on a row that is not chosen. Refusals 1, 2. */
 egl_answer egl_trgsw_identity_key_switching(EGL_PARAMS, const uint32_t *src, size_t src_len, const uint32_t *ksk, size_t ksk_len, uint32_t *out, size_t out_len);
 
 /* ---- gates on level-0 ciphertexts (n + 1 words each); ksk is the switching key, bsk the bootstrapping key. Refusals 1, 2. ---- */

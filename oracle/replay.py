@@ -6,9 +6,10 @@
 
 The first writes crates/replay/src/GROUP_cases.rt, a function for each case, and target/replay/GROUP.out, what they must print, in which the expected numbers
 are the list's; the second does so for the published sets, with the numbers that src/params.rs of the folder ORIGINAL gives. Join the groups' outputs to
-crates/replay/stdout in the order in which main calls the groups. A case calls the routine that the exported function of its name calls, as
-crates/egl_c/src has it; rows are looked up in the key that was generated. Each case costs about a second of every check, so one is taken of each routine,
-the list's first, and of a routine's two levels one, in turn. Cases with an empty slice or with more than 70 numbers are left out.
+crates/replay/stdout in the order in which main calls the groups, and have `rt fmt` lay the modules out; the list of tlwe is that of `--sets halves`. A case
+calls the routine that the exported function of its name calls, as crates/egl_c/src has it; rows are looked up in the key that was generated. Each case costs
+about a second of every check, so one is taken of each routine, the list's first, and of a routine's two levels one, in turn. Cases with an empty slice or with
+more than 70 numbers are left out.
 """
 import glob
 import os
@@ -34,7 +35,7 @@ def exported():
                     continue
                 value = "bit" if "bit_number" in call.group(4) else "wide" if "low_word" in call.group(4) else "amount" if call.group(3) == "amount" else "torus" if call.group(5) == "value.0" else "word"
             text = call.group(1) if value is None else call.group(2)
-            text = re.sub(r"Params \{.*?\}", "SET", text)
+            text = re.sub(r"\bnumbers\(.*?\)", "SET", text)
             found[m.group(1)] = ([k for k in kinds if k[0] not in SIX], text, value)
     return found
 
@@ -88,10 +89,10 @@ def case(line, kinds, call, value, sets):
 
 
 def lookups(numbers, params, key):
-    """`switching_row` on a generated key: its last row, which is its last n + 1 words, and a row that there is not, which is empty."""
+    """`switching_row` on a generated key: its last row, which is its last n + 1 words, and one of k = 0, which there is not and which is empty."""
     n, nbit, _, _, basebit, t = (int(x, 16) for x in numbers)
-    indices, more = [(1 << nbit) - 1, t - 1, (1 << basebit) - 1], [1 << nbit, 0, 0]
-    lines = [f'    show::row(b"key_switching_row", key::switching_row({params}, &out, {", ".join(map(hex, x))}));' for x in (indices, more)]
+    indices = [(1 << nbit) - 1, t - 1, (1 << basebit) - 1], [0, 0, 0]
+    lines = [f'    show::row(b"key_switching_row", key::switching_row({params}, &out, {", ".join(map(hex, x))}));' for x in indices]
     return lines, "\nkey_switching_row |" + "".join(" %08x" % int(w, 16) for w in key[-n - 1 :]) + "\nkey_switching_row |"
 
 

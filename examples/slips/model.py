@@ -113,9 +113,14 @@ def bootstrapping_key(p, key):
     return [[([m * g] + zero, [0] + zero) for g in gadget] + [([0] + zero, [m * g] + zero) for g in gadget] for m in key]
 
 
+def place(p, i, j, k):
+    """Of row (i, j, k) among the rows of the switching key, k from 1 (02, 2026-06)."""
+    return (2**p.basebit - 1) * (p.t * i + j) + k - 1
+
+
 def switching_key(p, z):
-    """Row (i, j, k) carries k·z_i·2^(32-(j+1)·BASEBIT)."""
-    return {(i, j, k): [0] * p.n + [k * z[i] * 2**(32 - (j + 1) * p.basebit) % Q] for i in range(size(p)) for j in range(p.t) for k in range(2**p.basebit)}
+    """Its rows in order: row (i, j, k), k from 1, carries k·z_i·2^(32-(j+1)·BASEBIT)."""
+    return [[0] * p.n + [k * z[i] * 2**(32 - (j + 1) * p.basebit) % Q] for i in range(size(p)) for j in range(p.t) for k in range(1, 2**p.basebit)]
 
 
 # ---- blind rotation, switching, gates
@@ -143,15 +148,16 @@ def blind_rotated(p, bsk, src, steps=None):
     return pair
 
 
-def switched(p, ksk, src, passes_over_zero=True):
-    """b copied; each mask + 2^(31-BASEBIT·T), wrapping; top T fields; a nonzero field's row is subtracted."""
+def switched(p, ksk, src, for_zero=None, place=place):
+    """b copied; each mask + 2^(31-BASEBIT·T), wrapping; top T fields; a nonzero field's row is subtracted. A field of 0 has none, or the one for this k."""
     out = [0] * p.n + [src[size(p)]]
     for i in range(size(p)):
         x = (src[i] + 2**(31 - p.basebit * p.t)) % Q
         for j in range(p.t):
             k = x // 2**(32 - (j + 1) * p.basebit) % 2**p.basebit
-            if k != 0 or not passes_over_zero:
-                out = minus(out, ksk[i, j, k])
+            k = for_zero if k == 0 else k
+            if k is not None:
+                out = minus(out, ksk[place(p, i, j, k)])
     return out
 
 
@@ -173,8 +179,8 @@ def sample(p, kind, a, b, bsk, steps=None):
     return extracted(*blind_rotated(p, bsk, src, steps), 0)
 
 
-def gate(p, kind, a, b, ksk, bsk, steps=None):
-    return switched(p, ksk, sample(p, kind, a, b, bsk, steps))
+def gate(p, kind, a, b, ksk, bsk, steps=None, for_zero=None):
+    return switched(p, ksk, sample(p, kind, a, b, bsk, steps), for_zero)
 
 
 def mux(p, a, b, c, ksk, bsk):

@@ -4,7 +4,7 @@ import sys
 
 sys.dont_write_bytecode = True
 from model import (EIGHTH, Q, SET_128, Params, body_amount, bootstrapping_key, centred, decrypted, digits, document01, eighths, encrypted,
-                   extracted, gate, mux, negative, offset, phase, remainder, rotated, rotated_sums, size, step, switched, switching_key, test_vector, word, words)
+                   extracted, gate, mux, negative, offset, phase, place, remainder, rotated, rotated_sums, size, step, switched, switching_key, test_vector, word, words)
 
 PAIRS = [(0, 0), (1, 0), (0, 1), (1, 1)]
 SMALL = Params(n=2, nbit=3, bgbit=8, l=2, basebit=2, t=5)
@@ -72,16 +72,11 @@ def false_minus_eighth():
 
 @slip('digit-zero-rows')
 def digit_zero_rows():
-    p = Params(n=1, nbit=1, bgbit=8, l=1, basebit=1, t=1)
-    print('n 1, N 2, BASEBIT 1, T 1: the masks 0, 0 have no field but 0, b is 5; the rows with k = 0 hold 7, 7')
-    ksk = switching_key(p, [1, 1])
-    for i in range(2):
-        ksk[i, 0, 0] = [7, 7]
-    beside(words(switched(p, ksk, [0, 0, 5])), words(switched(p, ksk, [0, 0, 5], passes_over_zero=False)))
-    for i in range(2):
-        ksk[i, 0, 0] = [0, 0]
-    print('  and with rows of zeros, as they are generated:')
-    beside(words(switched(p, ksk, [0, 0, 5])), words(switched(p, ksk, [0, 0, 5], passes_over_zero=False)))
+    p, ksk = Params(n=1, nbit=1, bgbit=8, l=1, basebit=1, t=1), [[1, 2], [3, 4]]
+    print('n 1, N 2, BASEBIT 1, T 1: the masks 0, 0 have no field but 0, b is 5; the rows (0, 0, 1) and (1, 0, 1) hold 1, 2 and 3, 4')
+    beside(words(switched(p, ksk, [0, 0, 5])), words(switched(p, ksk, [0, 0, 5], for_zero=1)))
+    print('nand, decrypted, with an honest key:')
+    table(lambda a, b: decrypted([1, 1], nand([1, 1], a, b)), lambda a, b: decrypted([1, 1], nand([1, 1], a, b, for_zero=1)))
 
 
 # ---- the fakes that 01 names
@@ -95,20 +90,20 @@ def operands(key, a, b):
     return encrypted(key, [0x10000000, 0x40000000], a), encrypted(key, [0x30000000, 0x40000000], b)
 
 
-def nand(key, a, b, steps=None):
-    return gate(SMALL, 'nand', *operands(key, a, b), *keys(key), steps)
+def nand(key, a, b, steps=None, for_zero=None):
+    return gate(SMALL, 'nand', *operands(key, a, b), *keys(key), steps, for_zero)
 
 
 def gate_number(p, a, b, ksk, bsk, out):
     """The refusal of a gate by the lengths that it is lent, the parameters being in range: 2 or 0."""
-    switching = 2**p.basebit * p.t * size(p) * (p.n + 1)
+    switching = (2**p.basebit - 1) * p.t * size(p) * (p.n + 1)
     return 0 if (a, b, ksk, bsk, out) == (p.n + 1, p.n + 1, switching, p.n * 2 * p.l * 2 * size(p), p.n + 1) else 2
 
 
 @slip('gate-refuses-all')
 def gate_refuses_all():
-    lengths = (3, 3, 480, 128, 3)
-    print('n 2, N 8, BGBIT 8, L 2, BASEBIT 2, T 5: the answer of a gate whose slices have 3, 3, 480, 128 and 3 words, as they should')
+    lengths = (3, 3, 360, 128, 3)
+    print('n 2, N 8, BGBIT 8, L 2, BASEBIT 2, T 5: the answer of a gate whose slices have 3, 3, 360, 128 and 3 words, as they should')
     beside(str(gate_number(SMALL, *lengths)), str(gate_number(SMALL, *lengths[:4], 0)), ('done', 'refused'))
 
 
@@ -195,6 +190,20 @@ def one_key():
     for key in ([1, 0], [1, 1]):
         print('  level-0 key %d, %d' % tuple(key))
         table(lambda a, b: decrypted(key, nand(key, a, b)), lambda a, b: decrypted(key, nand(key, a, b, steps=1)))
+
+
+@slip('row-one-off')
+def row_one_off():
+    p = Params(n=1, nbit=1, bgbit=8, l=1, basebit=2, t=1)
+
+    def off(p, i, j, k):
+        return place(p, i, j, k) + 1 // k
+    print('n 1, N 2, BASEBIT 2, T 1: the places of rows (0, 0, 1) to (0, 0, 3) and (1, 0, 1) to (1, 0, 3)')
+    beside(*(' '.join(str(at(p, i, 0, k)) for i in range(2) for k in range(1, 4)) for at in (place, off)))
+    z, src = [1, 0], [0x40000000, 0, 0x60000000]
+    print('level-1 key 1, 0: true with the masks 0x40000000, 0, whose fields are 1 and 0, is switched')
+    made = [switched(p, switching_key(p, z), src, place=at) for at in (place, off)]
+    beside(*(words(c) for c in made), ['decrypts to %d' % decrypted([1], c) for c in made])
 
 
 @slip('offset-power')

@@ -39,6 +39,8 @@ pub enum Slot {
     Key(Size),
     /// An amount or index of so many bits, and the largest that is allowed.
     Index(u32, Size),
+    /// The last index of a row of the switching key, from 1 to the largest that is allowed.
+    Digit(Size),
     /// Any number of so many bits.
     Number(u32),
     Turn,

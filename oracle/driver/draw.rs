@@ -40,6 +40,10 @@ pub fn good(source: &mut Source, r: &Routine, p: &[u32; 6]) -> Vec<Arg> {
                 let most = most(&s) as u64;
                 Arg::Num(if source.below(4) == 0 { source.of(&[0, most]) } else { source.below(most + 1) })
             }
+            Slot::Digit(most) => {
+                let most = most(&s) as u64;
+                Arg::Num(if source.below(4) == 0 { source.of(&[1, most]) } else { 1 + source.below(most) })
+            }
             Slot::Number(8) => Arg::Num(source.bytes(1)[0] as u64),
             Slot::Number(32) => Arg::Num(source.word() as u64),
             Slot::Number(_) => Arg::Num(if source.below(2) == 0 { source.below(200) } else { source.next() }),
@@ -92,9 +96,14 @@ pub fn other_counts(words: u64, pairs: u64) -> Vec<u64> {
     near.into_iter().chain(again).chain(limits).filter(|count| *count != pairs).collect()
 }
 
-fn resized(source: &mut Source, arg: &mut Arg) {
+/// Another length; for a switching key also the one that it had with idle rows.
+fn resized(source: &mut Source, p: &[u32; 6], arg: &mut Arg) {
     let len = arg.len();
-    let to = source.of(&[len + 1, len.saturating_sub(1), 0, 2 * len, len + 2]);
+    let mut lengths = vec![len + 1, len.saturating_sub(1), 0, 2 * len, len + 2];
+    if in_range(p) && len == Sizes::of(p).switching() {
+        lengths.push(Sizes::of(p).former_switching());
+    }
+    let to = source.of(&lengths);
     match arg {
         Arg::Words(v) => v.resize(to, 1),
         Arg::Bytes(v) => v.resize(to, 1),
@@ -136,12 +145,17 @@ pub fn faulty(source: &mut Source, r: &Routine) -> ([u32; 6], Vec<Arg>) {
                 let most = if in_range(&p) { most(&Sizes::of(&p)) as u64 } else { 4 };
                 *x = source.of(&[most + 1, most + 2, 2 * most + 7, u32::MAX as u64, u64::MAX >> (64 - bits)]);
             }
+            (Slot::Digit(most), Arg::Num(x)) => {
+                let most = if in_range(&p) { most(&Sizes::of(&p)) as u64 } else { 4 };
+                // the low bits of the last but one are those of a row
+                *x = source.of(&[0, 0, most + 1, 1 << 32, (1 << 32) + 1, u64::MAX]);
+            }
             (Slot::Modulus, Arg::Num(m)) => *m = source.of(&[0, 1, 3, 6, 63, 65, 128, 1 << 32, (1 << 32) + 2, 1 << 63, u64::MAX]),
             (Slot::Circuit, Arg::Bytes(b)) => circuits::damage(source, b),
             (Slot::PairKind, Arg::Num(kind)) => *kind = source.of(&OTHER_KINDS),
             (Slot::Pairs, Arg::Num(pairs)) => *pairs = source.of(&other_counts(p[0] as u64 + 1, *pairs)),
-            (Slot::In(..) | Slot::Out(..) | Slot::Key(_) | Slot::EachPair(_) | Slot::EachPairOut(_), a) => resized(source, a),
-            (Slot::Ciphers(_) | Slot::CiphersOut(_) | Slot::BytesOf(_) | Slot::WordsOut(_), a) => resized(source, a),
+            (Slot::In(..) | Slot::Out(..) | Slot::Key(_) | Slot::EachPair(_) | Slot::EachPairOut(_), a) => resized(source, &p, a),
+            (Slot::Ciphers(_) | Slot::CiphersOut(_) | Slot::BytesOf(_) | Slot::WordsOut(_), a) => resized(source, &p, a),
             _ => {}
         }
     }

@@ -2,6 +2,7 @@
 //! independently of the library: what the external product, the blind rotation and the
 //! gates must give word for word.
 
+use crate::layout;
 use crate::sizes::Sizes;
 use std::cell::Cell;
 
@@ -148,7 +149,7 @@ pub fn chosen(p: &[u32; 6], src: &[u32]) -> Vec<usize> {
         for j in 0..s.t {
             let k = (a >> (32 - (j as u32 + 1) * p[4])) as usize % s.base;
             if k != 0 {
-                out.push(s.base * s.t * i + s.base * j + k);
+                out.push(layout::place(&s, [i, j, k]));
             }
         }
     }

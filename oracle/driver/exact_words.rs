@@ -60,14 +60,13 @@ pub fn testvec(p: &[u32; 6]) -> Pair {
     (vec![0; 1 << p[1]], vec![1 << 29; 1 << p[1]])
 }
 
-/// Row (i, j, k) encrypts k * z_i * 2^(32 - (j+1) BASEBIT); with k = 0 it is zero and draws nothing.
+/// Row after row: row (i, j, k), k from 1, encrypts k * z_i * 2^(32 - (j+1) BASEBIT).
 pub fn switching_key(p: &[u32; 6], key0: &[u32], key1: &[u32], masks: &[u32], noise: &[u32]) -> Vec<u32> {
     let s = Sizes::of(p);
     let mut drawn = masks.chunks(s.n).zip(noise);
     let mut out = Vec::with_capacity(s.switching());
     for z in key1 {
         for j in 1..=p[5] {
-            out.extend(vec![0; s.n + 1]);
             for k in 1..s.base as u32 {
                 let (masks, noise) = drawn.next().expect("masks and noise for every row");
                 out.extend(encrypted((k * z) << (32 - j * p[4]), masks, *noise, key0));

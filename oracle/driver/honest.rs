@@ -56,8 +56,6 @@ impl Keys {
         let mut switching = Vec::with_capacity(s.switching());
         for z in &key_lv1 {
             for j in 0..s.t as u32 {
-                // no word depends on an idle row: it holds junk
-                switching.extend((0..=s.n).map(|_| source.next() as u32));
                 for k in 1..s.base as u32 {
                     switching.extend(tlwe(source, &key_lv0, (k * z) << (32 - (j + 1) * p[4]), spread.level0));
                 }

@@ -5,7 +5,7 @@ use crate::honest::Keys;
 use crate::sizes::Sizes;
 use crate::source::Source;
 
-/// Any words in every row, idle rows included.
+/// Any words in every row.
 pub fn keys(source: &mut Source, p: [u32; 6]) -> Keys {
     let s = Sizes::of(&p);
     let (switching, bootstrapping) = (source.words(s.switching()), source.words(s.bootstrapping()));

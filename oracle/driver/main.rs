@@ -21,6 +21,7 @@ mod ffi;
 mod groups;
 mod honest;
 mod junk;
+mod layout;
 #[cfg(not(bridge))]
 mod lent;
 mod reckoned_run;

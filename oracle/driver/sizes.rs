@@ -20,7 +20,15 @@ impl Sizes {
     pub fn bootstrapping(&self) -> usize {
         self.n * self.rows()
     }
+    /// Rows of the switching key: each has a noise word, n masks and n + 1 words.
+    pub fn switching_rows(&self) -> usize {
+        (self.base - 1) * self.t * self.ring
+    }
     pub fn switching(&self) -> usize {
+        self.switching_rows() * (self.n + 1)
+    }
+    /// Words of a switching key with idle rows.
+    pub fn former_switching(&self) -> usize {
         self.base * self.t * self.ring * (self.n + 1)
     }
 }

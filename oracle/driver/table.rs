@@ -50,6 +50,7 @@ fn apart(p: &[u32; 6], slots: &[Slot], args: &[Arg]) -> u32 {
             (Slot::In(_, len) | Slot::Out(_, len) | Slot::Key(len), a) if a.len() != len(&s) => note(2),
             (Slot::Key(_), Arg::Words(w)) if w.iter().any(|&x| x > 1) => note(4),
             (Slot::Index(_, most), Arg::Num(x)) if *x > most(&s) as u64 => note(3),
+            (Slot::Digit(most), Arg::Num(x)) if *x == 0 || *x > most(&s) as u64 => note(3),
             (Slot::Modulus, Arg::Num(m)) if ![2, 4, 8, 16, 32, 64].contains(m) => note(5),
             // no count of 64 bits makes a whole number of 128 wrap
             (Slot::EachPair(words) | Slot::EachPairOut(words), a) if a.len() as u128 != pairs as u128 * words(&s) as u128 => note(2),

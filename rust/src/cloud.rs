@@ -133,7 +133,7 @@ impl<'a> CloudKey<'a> {
         self.keys.bootstrapping
     }
 
-    /// Row (i, j, k) of the switching key, n + 1 words: i below N, j below t, k below 2^basebit. Refused with 3 otherwise.
+    /// Row (i, j, k) of the switching key, n + 1 words: i below N, j below t, k from 1 to 2^basebit - 1. Refused with 3 otherwise.
     pub fn switching_row(&self, i: usize, j: usize, k: usize) -> Result<&'a [u32], Refusal> {
         Refusal::of_answer(ffi::switching_row_answer(self.params, self.keys.switching.len(), i, j, k))?;
         let row = Refusal::of_answer(ffi::switching_row_index(self.params, i, j, k))?;
@@ -163,7 +163,7 @@ pub struct OwnedCloudKey {
 }
 
 impl OwnedCloudKey {
-    /// Draws masks and noise and makes both keys. At the 128-bit set they take 138 MB, and while they are made as much as 78 MB more.
+    /// Draws masks and noise and makes both keys. At the 128-bit set they take 112 MB, and while they are made as much as 78 MB more.
     pub fn draw<R: Random + ?Sized>(secret: &SecretKeys, noise: Noise, random: &mut R) -> Result<OwnedCloudKey, Error> {
         let (params, lengths) = (secret.params(), secret.lengths());
         let mut switching = zeros(lengths.switching_key)?;
@@ -189,9 +189,17 @@ impl OwnedCloudKey {
         Ok(OwnedCloudKey { params, lengths, switching, bootstrapping })
     }
 
+    /// Takes keys that were made up to version 5 of the interface: the switching key with its idle rows, which are dropped, and the bootstrapping key, which is
+    /// as it was. Refused as [`OwnedCloudKey::from_words`] is; a switching key that has no idle rows any more is refused with 2.
+    pub fn from_former_words(params: Params, former: &[u32], bootstrapping: Vec<u32>) -> Result<OwnedCloudKey, Error> {
+        let mut switching = zeros(params.lengths()?.switching_key)?;
+        lent::drop_idle_rows(params, former, &mut switching)?;
+        Ok(OwnedCloudKey::from_words(params, switching, bootstrapping)?)
+    }
+
     /// The key as the gates take it.
     pub fn view(&self) -> CloudKey<'_> {
-        // Both ways to make an owned key have checked what `CloudKey::new` checks.
+        // All ways to make an owned key have checked what `CloudKey::new` checks.
         CloudKey { params: self.params, lengths: self.lengths, keys: ffi::Cloud { switching: &self.switching, bootstrapping: &self.bootstrapping } }
     }
 }

@@ -22,6 +22,7 @@ extern "C" {
     fn egl_tlwe_decrypt_message_lv0(n: u32, nbit: u32, bgbit: u32, l: u32, basebit: u32, t: u32, modulus: u64, c: *const u32, c_len: usize, key: *const u32, key_len: usize) -> u64;
 
     fn egl_key_gen_key_switching_key(n: u32, nbit: u32, bgbit: u32, l: u32, basebit: u32, t: u32, key_lv0: *const u32, key_lv0_len: usize, key_lv1: *const u32, key_lv1_len: usize, masks: *const u32, masks_len: usize, noise: *const u32, noise_len: usize, out: *mut u32, out_len: usize) -> u64;
+    fn egl_key_drop_idle_rows(n: u32, nbit: u32, bgbit: u32, l: u32, basebit: u32, t: u32, former: *const u32, former_len: usize, out: *mut u32, out_len: usize) -> u64;
     fn egl_trgsw_gen_bootstrapping_key(n: u32, nbit: u32, bgbit: u32, l: u32, basebit: u32, t: u32, key_lv0: *const u32, key_lv0_len: usize, key_lv1: *const u32, key_lv1_len: usize, masks: *const u32, masks_len: usize, noise: *const u32, noise_len: usize, out: *mut u32, out_len: usize) -> u64;
     fn egl_key_switching_row_answer(n: u32, nbit: u32, bgbit: u32, l: u32, basebit: u32, t: u32, words: usize, i: usize, j: usize, k: usize) -> u64;
     fn egl_key_row_index(n: u32, nbit: u32, bgbit: u32, l: u32, basebit: u32, t: u32, i: usize, j: usize, k: usize) -> u64;
@@ -118,6 +119,7 @@ safe! {
     decrypt_message = egl_tlwe_decrypt_message_lv0(modulus: u64, ciphertext: words, key: words);
 
     switching_key = egl_key_gen_key_switching_key(key0: words, key1: words, masks: words, noise: words, out: written);
+    drop_idle_rows = egl_key_drop_idle_rows(former: words, out: written);
     bootstrapping_key = egl_trgsw_gen_bootstrapping_key(key0: words, key1: words, masks: words, noise: words, out: written);
     switching_row_answer = egl_key_switching_row_answer(length: usize, i: usize, j: usize, k: usize);
     switching_row_index = egl_key_row_index(i: usize, j: usize, k: usize);

@@ -48,12 +48,20 @@ pub fn fresh_drift(params: Params, ciphertext: &[u32], bit: bool, key: &[u32]) -
     Refusal::of_answer(ffi::fresh_drift(params, key, ciphertext, u8::from(bit))).map(|drift| drift as i32)
 }
 
-/// Makes the switching key. Masks and noise are used in row order; the rows that carry nothing draw none.
+/// Makes the switching key. Masks and noise are used in row order.
 ///
 /// `level0` has n words, `level1` N; the others are `switching_masks`, `switching_noise` and `switching_key` of
 /// [`Lengths`](crate::Lengths). Refusals: 1, 2, 4.
 pub fn switching_key(params: Params, level0: &[u32], level1: &[u32], masks: &[u32], noise: &[u32], out: &mut [u32]) -> Result<(), Refusal> {
     done(ffi::switching_key(params, level0, level1, masks, noise, out))
+}
+
+/// A switching key that was made up to version 5 of the interface, without its idle rows: `out` becomes the key as it is now, each row word for word. The idle
+/// rows, those with k = 0, may hold anything.
+///
+/// `former` and `out` are `former_switching_key` and `switching_key` of [`Lengths`](crate::Lengths). Refusals: 1, 2.
+pub fn drop_idle_rows(params: Params, former: &[u32], out: &mut [u32]) -> Result<(), Refusal> {
+    done(ffi::drop_idle_rows(params, former, out))
 }
 
 /// Makes the bootstrapping key: for each bit of `level0` 2l rows of 2N words.

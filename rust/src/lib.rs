@@ -31,6 +31,9 @@
 //!
 //! A ciphertext is a slice of n + 1 words (`u32`, each counting 2^-32 of a turn), the last of which is b.
 //!
+//! A stored cloud key is taken by [`OwnedCloudKey::from_words`], and one that was stored up to version 5 of the interface, when the switching key had idle rows, by
+//! [`OwnedCloudKey::from_former_words`]. The lengths tell them apart: each way refuses the other's with 2.
+//!
 //! The same gate on many pairs is one call, [`CloudKey::column`], or [`CloudKey::column_in_threads`] over several processors and with progress:
 //!
 //! ```no_run

@@ -31,12 +31,17 @@ pub struct Lengths {
     pub secret_level1: usize,
     /// n + 1, the words of a ciphertext.
     pub ciphertext: usize,
-    /// (n + 1) * N * t * 2^basebit, the words of the switching key.
+    /// (2^basebit - 1) * t * N, the rows of the switching key.
+    pub switching_rows: usize,
+    /// n + 1 for each row, the words of the switching key.
     pub switching_key: usize,
-    /// n * N * t * (2^basebit - 1), the masks that its generation is lent.
+    /// n for each row, the masks that its generation is lent.
     pub switching_masks: usize,
-    /// N * t * (2^basebit - 1), the noise words that its generation is lent.
+    /// One for each row, the noise words that its generation is lent.
     pub switching_noise: usize,
+    /// (n + 1) * 2^basebit * t * N, the words that the switching key had up to version 5, with its idle rows: see
+    /// [`OwnedCloudKey::from_former_words`](crate::OwnedCloudKey::from_former_words).
+    pub former_switching_key: usize,
     /// n * 2l * 2N, the words of the bootstrapping key.
     pub bootstrapping_key: usize,
     /// n * 2l * N, the masks that its generation is lent.
@@ -67,15 +72,18 @@ impl Params {
         let (n, l, t) = (u64::from(self.n), u64::from(self.l), u64::from(self.t));
         let power = |exponent: u32| 1u64.checked_shl(exponent).unwrap_or(u64::MAX);
         let (polynomial, base) = (power(self.nbit), power(self.basebit));
-        let (more, drawing) = (n.saturating_add(1), base.saturating_sub(1));
+        let (more, digits) = (n.saturating_add(1), base.saturating_sub(1));
+        let rows = digits.saturating_mul(t).saturating_mul(polynomial);
         Ok(Lengths {
             polynomial: product(&[polynomial]),
             secret_level0: product(&[n]),
             secret_level1: product(&[polynomial]),
             ciphertext: product(&[more]),
-            switching_key: product(&[more, polynomial, t, base]),
-            switching_masks: product(&[n, polynomial, t, drawing]),
-            switching_noise: product(&[polynomial, t, drawing]),
+            switching_rows: product(&[rows]),
+            switching_key: product(&[rows, more]),
+            switching_masks: product(&[rows, n]),
+            switching_noise: product(&[rows]),
+            former_switching_key: product(&[more, base, t, polynomial]),
             bootstrapping_key: product(&[n, 2, l, 2, polynomial]),
             bootstrapping_masks: product(&[n, 2, l, polynomial]),
             bootstrapping_noise: product(&[n, 2, l, polynomial]),

@@ -18,6 +18,8 @@ use Rattle.rotation.specs.Amount.{half, step, maskAmount, bodyAmount}
 use Rattle.key.specs.Bits.{bitRows}
 use Rattle.key.specs.Offset.{offset}
 use Rattle.key.specs.Switching.{rowIndex, rowPart}
+use Rattle.key.specs.Generation.{rowOuter, rowField, rowDigit}
+use Rattle.key.specs.Former.{formerIndex, formerRow, withoutIdle}
 use Rattle.gate_sums.specs.Sum.{summed}
 use Rattle.decomposition.specs.Digit.{digitOf, digitPoly}
 use Rattle.decomposition.specs.Pair.{pairDigit}
@@ -30,30 +32,30 @@ use Rattle.ways.specs.Ways.{ways, wayOf, rotationsOf, rotationSum, rotatedSums,
 use Rattle.columns.specs.Column.{pairGate, pairResult, columnOf}
 use Rattle.columns.specs.Refusals.{columnNumber}
 
--- n 1, N 2, BGBIT 6, L 3, BASEBIT 1, T 1: a ciphertext has 2 words, the keys 8 and 24
+-- n 1, N 2, BGBIT 6, L 3, BASEBIT 1, T 1: a ciphertext has 2 words, the keys 4 and 24
 abbrev two : Params
 two = numbers 1 1 6 3 1 1
 
 -- 2 pairs are 8 words and their results 4
-pub numbers-of-two : map (λ kind. columnNumber two kind 2 8 8 24 4) (0 ∷ 1 ∷ 2 ∷ 3 ∷ 4 ∷ 5 ∷ 6 ∷ 7 ∷ 8 ∷ 9 ∷ 10 ∷ 11 ∷ 12 ∷ 13 ∷ 14 ∷ 259 ∷ 18446744073709551615 ∷ [])
+pub numbers-of-two : map (λ kind. columnNumber two kind 2 8 4 24 4) (0 ∷ 1 ∷ 2 ∷ 3 ∷ 4 ∷ 5 ∷ 6 ∷ 7 ∷ 8 ∷ 9 ∷ 10 ∷ 11 ∷ 12 ∷ 13 ∷ 14 ∷ 259 ∷ 18446744073709551615 ∷ [])
     ≡ 9 ∷ 9 ∷ 9 ∷ 0 ∷ 0 ∷ 0 ∷ 0 ∷ 0 ∷ 0 ∷ 0 ∷ 0 ∷ 0 ∷ 0 ∷ 9 ∷ 9 ∷ 9 ∷ 9 ∷ []
 unfolding columnNumber paramsNumber
 numbers-of-two = refl
 
 -- each length alone, and with a wrong kind beside it; then a parameter at fault beside both
-pub faults : (columnNumber two 3 2 7 8 24 4 ∷ columnNumber two 3 2 8 7 24 4 ∷ columnNumber two 3 2 8 8 25 4 ∷ columnNumber two 3 2 8 8 24 5 ∷ columnNumber two 13 2 8 8 24 5 ∷ columnNumber (numbers 0 1 6 3 1 1) 13 2 8 8 24 5 ∷ [])
+pub faults : (columnNumber two 3 2 7 4 24 4 ∷ columnNumber two 3 2 8 8 24 4 ∷ columnNumber two 3 2 8 4 25 4 ∷ columnNumber two 3 2 8 4 24 5 ∷ columnNumber two 13 2 8 4 24 5 ∷ columnNumber (numbers 0 1 6 3 1 1) 13 2 8 4 24 5 ∷ [])
     ≡ 2 ∷ 2 ∷ 2 ∷ 2 ∷ 2 ∷ 1 ∷ []
 unfolding columnNumber paramsNumber
 faults = refl
 
--- n 2: 3 pairs are 18 words and their results 9, the keys have 12 and 48; what n + 3 words a pair, or 2n a result, would make of it is refused. Each answer has place 0
-pub three : (answer (columnNumber (numbers 2 1 6 3 1 1) 7 3 18 12 48 9) ∷ answer (columnNumber (numbers 2 1 6 3 1 1) 7 3 15 12 48 9) ∷ answer (columnNumber (numbers 2 1 6 3 1 1) 7 3 18 12 48 12) ∷ answer (columnNumber (numbers 2 1 6 3 1 1) 13 3 18 12 48 9) ∷ [])
+-- n 2: 3 pairs are 18 words and their results 9, the keys have 6 and 48; what n + 3 words a pair, or 2n a result, would make of it is refused. Each answer has place 0
+pub three : (answer (columnNumber (numbers 2 1 6 3 1 1) 7 3 18 6 48 9) ∷ answer (columnNumber (numbers 2 1 6 3 1 1) 7 3 15 6 48 9) ∷ answer (columnNumber (numbers 2 1 6 3 1 1) 7 3 18 6 48 12) ∷ answer (columnNumber (numbers 2 1 6 3 1 1) 13 3 18 6 48 9) ∷ [])
     ≡ record { number = 0; place = 0 } ∷ record { number = 2; place = 0 } ∷ record { number = 2; place = 0 } ∷ record { number = 9; place = 0 } ∷ []
 unfolding columnNumber paramsNumber
 three = refl
 
 -- no pairs, with a kind of a column and with another; and 2^62 pairs, whose 2^64 words would wrap to none, beside empty slices
-pub ends : (columnNumber two 3 0 0 8 24 0 ∷ columnNumber two 2 0 0 8 24 0 ∷ columnNumber two 3 4611686018427387904 0 8 24 0 ∷ []) ≡ 0 ∷ 9 ∷ 2 ∷ []
+pub ends : (columnNumber two 3 0 0 4 24 0 ∷ columnNumber two 2 0 0 4 24 0 ∷ columnNumber two 3 4611686018427387904 0 4 24 0 ∷ []) ≡ 0 ∷ 9 ∷ 2 ∷ []
 unfolding columnNumber paramsNumber
 ends = refl
 
@@ -64,7 +66,11 @@ pairs = 0x40000000 ∷ 0x12345678 ∷ 0x9ABCDEF0 ∷ 0x20000000 ∷ 0xC0000001 �
 abbrev multiples : ℕ → ℕ → List ℕ
 multiples n x = tab n (λ i. (i + 1) * x % 0x100000000)
 
-pub two-pairs : (columnOf two (multiples 8 0x85EBCA6B) (multiples 24 0x9E3779B1) 8 2 pairs ≡ 0 ∷ 0x03779B11 ∷ 0x3B35E82E ∷ 0x9E872E05 ∷ [])
-    × (columnOf two (multiples 8 0x85EBCA6B) (multiples 24 0x9E3779B1) 5 2 pairs ≡ 0 ∷ 0xC89FC08E ∷ 0 ∷ 0x9746CDE4 ∷ [])
-unfolding part joined trivial extract plus minus before times scale total sumTo tab source rotated Q neg comp fieldOf negative half step maskAmount bodyAmount bitRows offset rowIndex rowPart summed digitOf digitPoly pairDigit rounding rounded maskField usedRow maskRows switched rowA rowB external cmuxOf turned blindStep stepsTo startOf blindRotated rotatedSample cipherAt ways wayOf rotationsOf rotationSum rotatedSums made ran pairGate pairResult columnOf
+-- the switching key: the rows of one in the layout before 02, 2026-06, without the idle ones
+abbrev ksk : List ℕ
+ksk = withoutIdle two (multiples 8 0x85EBCA6B)
+
+pub two-pairs : (columnOf two ksk (multiples 24 0x9E3779B1) 8 2 pairs ≡ 0 ∷ 0x03779B11 ∷ 0x3B35E82E ∷ 0x9E872E05 ∷ [])
+    × (columnOf two ksk (multiples 24 0x9E3779B1) 5 2 pairs ≡ 0 ∷ 0xC89FC08E ∷ 0 ∷ 0x9746CDE4 ∷ [])
+unfolding part joined trivial extract plus minus before times scale total sumTo tab source rotated Q neg comp fieldOf negative half step maskAmount bodyAmount bitRows offset rowOuter rowField rowDigit withoutIdle formerRow formerIndex rowIndex rowPart summed digitOf digitPoly pairDigit rounding rounded maskField usedRow maskRows switched rowA rowB external cmuxOf turned blindStep stepsTo startOf blindRotated rotatedSample cipherAt ways wayOf rotationsOf rotationSum rotatedSums made ran pairGate pairResult columnOf
 two-pairs = (refl, refl)

@@ -21,7 +21,8 @@ use Rattle.tlwe.specs.Decrypt.{bitOf}
 use Rattle.rotation.specs.Amount.{half, step, maskAmount, bodyAmount}
 use Rattle.key.specs.Offset.{offset}
 use Rattle.key.specs.Switching.{rowIndex, rowPart, carried}
-use Rattle.key.specs.Generation.{rowOuter, rowField, rowDigit, drawn, rowMasks, rowNoise, drawnRow, generatedRow, generated}
+use Rattle.key.specs.Generation.{rowOuter, rowField, rowDigit, rowMasks, generatedRow, generated}
+use Rattle.key.specs.Former.{formerIndex, formerRow, withoutIdle}
 use Rattle.decomposition.specs.Digit.{digitOf, digitPoly, digitWeight}
 use Rattle.decomposition.specs.Pair.{pairDigit}
 use Rattle.trgsw.specs.External.{rowA, rowB, external, cmuxOf}
@@ -97,14 +98,14 @@ pub nand-inside : (allInside eight key z ksk bsk nand noisy bits ≡ true)
     × (driftsOf eight key z ksk bsk nand noisy bits ≡ pos 0xC000000 ∷ pos 0xC000000 ∷ negℤ (pos 14325906) ∷ [])
     × (broughtOf eight key z ksk bsk nand noisy bits ≡ negℤ (pos 0x10000000) ∷ [])
     × (bitOf (phaseOf 1 key (cipherAt eight (ciphersOf eight ksk bsk nand noisy) 2)) ≡ false)
-unfolding Q neg comp H centre sumTo tab scale plus minus before times total source rotated complemented extract after inner phaseOf half step maskAmount bodyAmount offset carried rowOuter rowField rowDigit drawn rowMasks rowNoise drawnRow generatedRow joined generated rowIndex rowPart digitField digitOf digitPoly digitWeight pairDigit part rowA rowB external cmuxOf lowPoly turned bitRows blindStep stepsTo startOf blindRotated rounding rounded maskField usedRow maskRows switched dropped trivial summed rotatedSample byteField ways wayOf rotationsOf rotationSum rotatedSums made ran cipherAt gateCipher ciphersTo centred wholeSum wholeTimes wholeTurn wholePhase wholePairPhase inside freshDrift shouldCarry bootstrappingError switchingError remainder broughtIn complementsDrift rowsDrift stepDrift rotationDrift extractedDrift switchedDrift gateDrift wayDrift wayBrought gateDriftOn gateBroughtOn freshTo driftsTo broughtTo outputDriftsTo allOf allInside
+unfolding Q neg comp H centre sumTo tab scale plus minus before times total source rotated complemented extract after inner phaseOf half step maskAmount bodyAmount offset carried rowOuter rowField rowDigit rowMasks generatedRow joined generated rowIndex rowPart digitField digitOf digitPoly digitWeight pairDigit part rowA rowB external cmuxOf lowPoly turned bitRows blindStep stepsTo startOf blindRotated rounding rounded maskField usedRow maskRows switched dropped trivial summed rotatedSample byteField ways wayOf rotationsOf rotationSum rotatedSums made ran cipherAt gateCipher ciphersTo centred wholeSum wholeTimes wholeTurn wholePhase wholePairPhase inside freshDrift shouldCarry bootstrappingError switchingError remainder broughtIn complementsDrift rowsDrift stepDrift rotationDrift extractedDrift switchedDrift gateDrift wayDrift wayBrought gateDriftOn gateBroughtOn freshTo driftsTo broughtTo outputDriftsTo allOf allInside
 nand-inside = (refl, refl, refl, refl)
 
 -- 2^29 is not inside: the turn falls on the other side, and the output decrypts to true
 pub nand-outside : (allInside eight key z ksk bsk nand noisier bits ≡ false)
     × (broughtOf eight key z ksk bsk nand noisier bits ≡ pos 0x20000000 ∷ [])
     × (bitOf (phaseOf 1 key (cipherAt eight (ciphersOf eight ksk bsk nand noisier) 2)) ≡ true)
-unfolding Q neg comp H centre sumTo tab scale plus minus before times total source rotated complemented extract after inner phaseOf half step maskAmount bodyAmount offset carried rowOuter rowField rowDigit drawn rowMasks rowNoise drawnRow generatedRow joined generated rowIndex rowPart digitField digitOf digitPoly digitWeight pairDigit part rowA rowB external cmuxOf lowPoly turned bitRows blindStep stepsTo startOf blindRotated rounding rounded maskField usedRow maskRows switched dropped trivial summed rotatedSample byteField ways wayOf rotationsOf rotationSum rotatedSums made ran cipherAt gateCipher ciphersTo centred wholeSum wholeTimes wholeTurn wholePhase wholePairPhase inside freshDrift shouldCarry bootstrappingError switchingError remainder broughtIn complementsDrift rowsDrift stepDrift rotationDrift extractedDrift switchedDrift gateDrift wayDrift wayBrought gateDriftOn gateBroughtOn freshTo driftsTo broughtTo outputDriftsTo allOf allInside
+unfolding Q neg comp H centre sumTo tab scale plus minus before times total source rotated complemented extract after inner phaseOf half step maskAmount bodyAmount offset carried rowOuter rowField rowDigit rowMasks generatedRow joined generated rowIndex rowPart digitField digitOf digitPoly digitWeight pairDigit part rowA rowB external cmuxOf lowPoly turned bitRows blindStep stepsTo startOf blindRotated rounding rounded maskField usedRow maskRows switched dropped trivial summed rotatedSample byteField ways wayOf rotationsOf rotationSum rotatedSums made ran cipherAt gateCipher ciphersTo centred wholeSum wholeTimes wholeTurn wholePhase wholePairPhase inside freshDrift shouldCarry bootstrappingError switchingError remainder broughtIn complementsDrift rowsDrift stepDrift rotationDrift extractedDrift switchedDrift gateDrift wayDrift wayBrought gateDriftOn gateBroughtOn freshTo driftsTo broughtTo outputDriftsTo allOf allInside
 nand-outside = (refl, refl, refl)
 
 -- a bootstrapping key of no words, which reads as zeros: what is brought in is inside, but the output's drift is a quarter of a turn, and it decrypts to true
@@ -112,7 +113,7 @@ pub nand-astray : (allInside eight key z ksk [] nand noisy bits ≡ false)
     × (broughtOf eight key z ksk [] nand noisy bits ≡ negℤ (pos 0x10000000) ∷ [])
     × (driftsOf eight key z ksk [] nand noisy bits ≡ pos 0xC000000 ∷ pos 0xC000000 ∷ pos 0x40000000 ∷ [])
     × (bitOf (phaseOf 1 key (cipherAt eight (ciphersOf eight ksk [] nand noisy) 2)) ≡ true)
-unfolding Q neg comp H centre sumTo tab scale plus minus before times total source rotated complemented extract after inner phaseOf half step maskAmount bodyAmount offset carried rowOuter rowField rowDigit drawn rowMasks rowNoise drawnRow generatedRow joined generated rowIndex rowPart digitField digitOf digitPoly digitWeight pairDigit part rowA rowB external cmuxOf lowPoly turned bitRows blindStep stepsTo startOf blindRotated rounding rounded maskField usedRow maskRows switched dropped trivial summed rotatedSample byteField ways wayOf rotationsOf rotationSum rotatedSums made ran cipherAt gateCipher ciphersTo centred wholeSum wholeTimes wholeTurn wholePhase wholePairPhase inside freshDrift shouldCarry bootstrappingError switchingError remainder broughtIn complementsDrift rowsDrift stepDrift rotationDrift extractedDrift switchedDrift gateDrift wayDrift wayBrought gateDriftOn gateBroughtOn freshTo driftsTo broughtTo outputDriftsTo allOf allInside
+unfolding Q neg comp H centre sumTo tab scale plus minus before times total source rotated complemented extract after inner phaseOf half step maskAmount bodyAmount offset carried rowOuter rowField rowDigit rowMasks generatedRow joined generated rowIndex rowPart digitField digitOf digitPoly digitWeight pairDigit part rowA rowB external cmuxOf lowPoly turned bitRows blindStep stepsTo startOf blindRotated rounding rounded maskField usedRow maskRows switched dropped trivial summed rotatedSample byteField ways wayOf rotationsOf rotationSum rotatedSums made ran cipherAt gateCipher ciphersTo centred wholeSum wholeTimes wholeTurn wholePhase wholePairPhase inside freshDrift shouldCarry bootstrappingError switchingError remainder broughtIn complementsDrift rowsDrift stepDrift rotationDrift extractedDrift switchedDrift gateDrift wayDrift wayBrought gateDriftOn gateBroughtOn freshTo driftsTo broughtTo outputDriftsTo allOf allInside
 nand-astray = (refl, refl, refl, refl)
 
 -- ---- five gates on junk
@@ -134,11 +135,15 @@ two = numbers 1 1 4 2 2 2
 abbrev pub two-inputs : List ℕ
 two-inputs = 0x2BADCAFE ∷ 0x9ABCDEF0 ∷ 0xBADCAFE5 ∷ 0x0DEFACED ∷ []
 
+-- the rows of a key in the layout before 02, 2026-06, without the idle ones: the numbers below are those of that layout, which had these rows
+abbrev pub five-ksk : List ℕ
+five-ksk = withoutIdle two (junk 32 11)
+
 -- `not` negates, false has 1 and true 0; xnor rotates once, mux twice, the others never: so many drifts are brought in, so many sums rotated, and so much is the work
-pub five-gates : (driftsOf two key (1 ∷ 1 ∷ []) (junk 32 11) (junk 16 7) five two-inputs (1 ∷ 0 ∷ [])
+pub five-gates : (driftsOf two key (1 ∷ 1 ∷ []) five-ksk (junk 16 7) five two-inputs (1 ∷ 0 ∷ [])
     ≡ pos 1326388210 ∷ pos 1930624264 ∷ negℤ (pos 1829675921) ∷ pos 88461354 ∷ negℤ (pos 88461354) ∷ pos 1 ∷ pos 0 ∷ [])
-    × (broughtOf two key (1 ∷ 1 ∷ []) (junk 32 11) (junk 16 7) five two-inputs (1 ∷ 0 ∷ []) ≡ pos 0x20000000 ∷ negℤ (pos 0x60000000) ∷ pos 0x20000000 ∷ [])
-    × (rotatedOf two (junk 32 11) (junk 16 7) five two-inputs ≡ (0xA1672AC8 ∷ 0xF69C38CA ∷ []) ∷ (0xE68A7AE3 ∷ 0x88AC8BDD ∷ []) ∷ (0x20DECC73 ∷ 0x04C114F0 ∷ []) ∷ [])
+    × (broughtOf two key (1 ∷ 1 ∷ []) five-ksk (junk 16 7) five two-inputs (1 ∷ 0 ∷ []) ≡ pos 0x20000000 ∷ negℤ (pos 0x60000000) ∷ pos 0x20000000 ∷ [])
+    × (rotatedOf two five-ksk (junk 16 7) five two-inputs ≡ (0xA1672AC8 ∷ 0xF69C38CA ∷ []) ∷ (0xE68A7AE3 ∷ 0x88AC8BDD ∷ []) ∷ (0x20DECC73 ∷ 0x04C114F0 ∷ []) ∷ [])
     × (workOf five ≡ 3)
-unfolding Q neg comp H centre sumTo tab scale plus minus before times total source rotated complemented extract after inner phaseOf half step maskAmount bodyAmount offset carried rowOuter rowField rowDigit drawn rowMasks rowNoise drawnRow generatedRow joined generated rowIndex rowPart digitField digitOf digitPoly digitWeight pairDigit part rowA rowB external cmuxOf lowPoly turned bitRows blindStep stepsTo startOf blindRotated rounding rounded maskField usedRow maskRows switched dropped trivial summed negative constantOf muxSum rotatedSample byteField ways wayOf rotationsOf rotationSum rotatedSums made ran cipherAt gateCipher ciphersTo centred wholeSum wholeTimes wholeTurn wholePhase wholePairPhase inside freshDrift shouldCarry bootstrappingError switchingError remainder broughtIn complementsDrift rowsDrift stepDrift rotationDrift extractedDrift switchedDrift gateDrift muxDrift wayDrift wayBrought gateDriftOn gateBroughtOn freshTo driftsTo broughtTo outputDriftsTo allOf allInside rotatedTo gateRotated workOf kindOf kinds
+unfolding Q neg comp H centre sumTo tab scale plus minus before times total source rotated complemented extract after inner phaseOf half step maskAmount bodyAmount offset carried rowOuter rowField rowDigit withoutIdle formerRow formerIndex joined rowIndex rowPart digitField digitOf digitPoly digitWeight pairDigit part rowA rowB external cmuxOf lowPoly turned bitRows blindStep stepsTo startOf blindRotated rounding rounded maskField usedRow maskRows switched dropped trivial summed negative constantOf muxSum rotatedSample byteField ways wayOf rotationsOf rotationSum rotatedSums made ran cipherAt gateCipher ciphersTo centred wholeSum wholeTimes wholeTurn wholePhase wholePairPhase inside freshDrift shouldCarry bootstrappingError switchingError remainder broughtIn complementsDrift rowsDrift stepDrift rotationDrift extractedDrift switchedDrift gateDrift muxDrift wayDrift wayBrought gateDriftOn gateBroughtOn freshTo driftsTo broughtTo outputDriftsTo allOf allInside rotatedTo gateRotated workOf kindOf kinds
 five-gates = (refl, refl, refl, refl)

@@ -17,6 +17,8 @@ use Rattle.params.specs.Published.{numbers}
 use Rattle.rotation.specs.Amount.{half, step, maskAmount, bodyAmount}
 use Rattle.key.specs.Offset.{offset}
 use Rattle.key.specs.Switching.{rowIndex, rowPart}
+use Rattle.key.specs.Generation.{rowOuter, rowField, rowDigit}
+use Rattle.key.specs.Former.{formerIndex, formerRow, withoutIdle}
 use Rattle.decomposition.specs.Digit.{digitOf, digitPoly, digitWeight}
 use Rattle.decomposition.specs.Pair.{pairDigit}
 use Rattle.trgsw.specs.External.{rowA, rowB, external, cmuxOf}
@@ -29,7 +31,7 @@ use Rattle.gate_sums.specs.Sum.{muxSum}
 use Rattle.drift.specs.Polynomials.{centred, wholeSum, wholeTimes, wholeTurn, wholePhase, wholePairPhase}
 use Rattle.drift.specs.Whole.{inside, freshDrift, shouldCarry, bootstrappingError, switchingError, remainder, broughtIn, complementsDrift, rowsDrift, stepDrift, rotationDrift, extractedDrift, switchedDrift, gateDrift, muxDrift}
 use Rattle.drift.specs.Circuit.{worse, worstFrom, worstOf}
-use Rattle.ring.specs.Lists.{part}
+use Rattle.ring.specs.Lists.{part, joined}
 use Rattle.key.specs.Bits.{bitRows}
 use Rattle.samples.specs.Sample.{rotatedSample}
 use Rattle.drift_size.specs.Size.{insideWord}
@@ -82,6 +84,10 @@ junk n c = tab n (λ i. (i + 1) * (i + c) * 0x9E3779B9 % Q)
 abbrev key : List ℕ
 key = 1 ∷ []
 
+-- the rows of a key in the layout before 02, 2026-06, without the idle ones: the numbers below are those of that layout, which had these rows
+abbrev ksk : List ℕ
+ksk = withoutIdle small (junk 32 11)
+
 abbrev src : List ℕ
 src = 0x2BADCAFE ∷ 0x9ABCDEF0 ∷ []
 
@@ -96,8 +102,8 @@ fresh-values = (refl, refl, refl)
 -- errors: of rows 0 and 2 of the bootstrapping key for the key bit 1, and of row (1, 1, 3) of the switching key
 pub error-values : (bootstrappingError small ones (junk 16 7) 1 0 0 ≡ pos 1338842628) × (bootstrappingError small ones (junk 16 7) 1 0 1 ≡ negℤ (pos 1850796727))
     × (bootstrappingError small ones (junk 16 7) 1 2 0 ≡ negℤ (pos 168768204)) × (bootstrappingError small ones (junk 16 7) 1 2 1 ≡ pos 752971753)
-    × (switchingError small key ones (junk 32 11) 1 1 3 ≡ negℤ (pos 305023551))
-unfolding Q neg H centre tab part rowA rowB rowIndex rowPart digitWeight centred wholeSum wholeTimes wholePhase wholePairPhase shouldCarry bootstrappingError switchingError
+    × (switchingError small key ones ksk 1 1 3 ≡ negℤ (pos 305023551))
+unfolding Q neg H centre tab part rowA rowB rowOuter rowField rowDigit joined withoutIdle formerRow formerIndex rowIndex rowPart digitWeight centred wholeSum wholeTimes wholePhase wholePairPhase shouldCarry bootstrappingError switchingError
 error-values = (refl, refl, refl, refl, refl)
 
 -- its first step has digits below 0, which count as signed
@@ -112,8 +118,8 @@ unfolding Q neg comp H centre sumTo tab minus source rotated complemented half s
 step-values = (refl, refl, refl, refl, refl, refl)
 
 -- switching, and the whole of a gate and of `mux`
-pub gate-values : (switchedDrift small key ones (junk 32 11) (0x12345678 ∷ 0x9ABCDEF0 ∷ 0 ∷ []) ≡ negℤ (pos 514162075))
-    × (gateDrift small key ones (junk 32 11) (junk 16 7) src ≡ pos 809288528)
-    × (muxDrift small key ones (junk 32 11) (junk 16 7) src other ≡ negℤ (pos 1965194713))
-unfolding Q neg comp H centre sumTo tab plus minus before times total source rotated complemented extract after half step maskAmount bodyAmount offset rowIndex rowPart digitField digitOf digitPoly digitWeight pairDigit part rowA rowB external cmuxOf lowPoly turned bitRows blindStep stepsTo startOf blindRotated rounding rounded maskField dropped trivial muxSum rotatedSample centred wholeSum wholeTimes wholeTurn wholePhase wholePairPhase shouldCarry bootstrappingError switchingError complementsDrift rowsDrift stepDrift rotationDrift extractedDrift switchedDrift gateDrift muxDrift
+pub gate-values : (switchedDrift small key ones ksk (0x12345678 ∷ 0x9ABCDEF0 ∷ 0 ∷ []) ≡ negℤ (pos 514162075))
+    × (gateDrift small key ones ksk (junk 16 7) src ≡ pos 809288528)
+    × (muxDrift small key ones ksk (junk 16 7) src other ≡ negℤ (pos 1965194713))
+unfolding Q neg comp H centre sumTo tab plus minus before times total source rotated complemented extract after half step maskAmount bodyAmount offset rowOuter rowField rowDigit joined withoutIdle formerRow formerIndex rowIndex rowPart digitField digitOf digitPoly digitWeight pairDigit part rowA rowB external cmuxOf lowPoly turned bitRows blindStep stepsTo startOf blindRotated rounding rounded maskField dropped trivial muxSum rotatedSample centred wholeSum wholeTimes wholeTurn wholePhase wholePairPhase shouldCarry bootstrappingError switchingError complementsDrift rowsDrift stepDrift rotationDrift extractedDrift switchedDrift gateDrift muxDrift
 gate-values = (refl, refl, refl)

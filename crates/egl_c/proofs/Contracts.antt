@@ -1,5 +1,5 @@
--- What the exports of reports tell, by their contracts as `rattle` reads them from the code, is what the laws and computed cases of drift_report speak of: by computation. So a contract that is changed
--- together with its code is refused here.
+-- What the exports of reports tell, and the one that drops a former key's idle rows, by their contracts as `rattle` reads them from the code, is what the laws and computed cases of drift_report and key speak of: by
+-- computation. So a contract that is changed together with its code is refused here.
 -- Assumes nothing.
 use mathlib.Core.Path.{_≡_}
 use lib.ListN.{length}
@@ -8,10 +8,13 @@ use denote.Ref.{now}
 use denote.Triple.Entry.{Args, Res}
 use denote.Triple.Clauses.{Lasts, atExit}
 use Rattle.params.specs.Refusal.{answer, ifDone}
+use Rattle.params.specs.Published.{numbers}
 use Rattle.packing.specs.Packed.{packed}
+use Rattle.key.specs.Former.{withoutIdle, dropNumber}
 use Rattle.drift_report.specs.Report.{emptyReport, reportOf}
 use Rattle.drift_report.specs.Merge.{merged}
 use Rattle.drift_report.specs.Words.{reportWords, reportFrom, emptyNumber, reportNumber, mergeNumber}
+use Rattle.egl_c.proofs.key_c.egl_key_drop_idle_rows as egl-key-drop-idle-rows
 use Rattle.egl_c.proofs.drift_report_c.egl_drift_report_empty as egl-drift-report-empty
 use Rattle.egl_c.proofs.drift_report_c.egl_drift_report_of as egl-drift-report-of
 use Rattle.egl_c.proofs.drift_report_c.egl_drift_report_merge as egl-drift-report-merge
@@ -31,3 +34,9 @@ pub egl-drift-report-merge-tells : (κs : Lfts (egl-drift-report-merge.ended .si
     → let first = now (a .0) in let second = now (a .1 .0) in let out = now (a .1 .1 .0) in let number = mergeNumber first second (length out) in
     (x ≡ packed (answer number)) × (v .1 .1 .0 ≡ ifDone number (reportWords (merged (reportFrom first) (reportFrom second))) out)
 egl-drift-report-merge-tells κs a x v h = h
+
+pub egl-key-drop-idle-rows-tells : (κs : Lfts (egl-key-drop-idle-rows.ended .signature .lifetimes)) (a : Args (egl-key-drop-idle-rows.ended .signature) κs)
+    (x : Res (egl-key-drop-idle-rows.ended .signature) κs) (v : Lasts egl-key-drop-idle-rows.ended κs a) → egl-key-drop-idle-rows.Reads.Learnt κs a x (atExit egl-key-drop-idle-rows.ended κs a v)
+    → let p = numbers (a .0) (a .1 .0) (a .1 .1 .0) (a .1 .1 .1 .0) (a .1 .1 .1 .1 .0) (a .1 .1 .1 .1 .1 .0) in let former = now (a .1 .1 .1 .1 .1 .1 .0) in let out = now (a .1 .1 .1 .1 .1 .1 .1 .0) in
+    let number = dropNumber p (length former) (length out) in (x ≡ packed (answer number)) × (v .1 .1 .1 .1 .1 .1 .1 .0 ≡ ifDone number (withoutIdle p former) out)
+egl-key-drop-idle-rows-tells κs a x v h = h

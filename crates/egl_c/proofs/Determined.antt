@@ -9,6 +9,7 @@ use Rattle.ring.proofs.Outcomes.{Determined, DeterminedAs, said, said-written, 
 use Rattle.egl_c.proofs.key_c.egl_key_decomposition_offset as egl-key-decomposition-offset
 use Rattle.egl_c.proofs.key_c.egl_key_gen_testvec as egl-key-gen-testvec
 use Rattle.egl_c.proofs.key_c.egl_key_gen_key_switching_key as egl-key-gen-key-switching-key
+use Rattle.egl_c.proofs.key_c.egl_key_drop_idle_rows as egl-key-drop-idle-rows
 use Rattle.egl_c.proofs.key_c.egl_key_switching_row_answer as egl-key-switching-row-answer
 use Rattle.egl_c.proofs.key_c.egl_key_row_index as egl-key-row-index
 use Rattle.egl_c.proofs.params_c.egl_params_check as egl-params-check
@@ -55,6 +56,9 @@ egl-key-gen-testvec-determined κs a x y v w = said-written-twice 6
 
 pub egl-key-gen-key-switching-key-determined : Determined egl-key-gen-key-switching-key.ended egl-key-gen-key-switching-key.Reads.Learnt
 egl-key-gen-key-switching-key-determined κs a x y v w = said-written 10
+
+pub egl-key-drop-idle-rows-determined : Determined egl-key-drop-idle-rows.ended egl-key-drop-idle-rows.Reads.Learnt
+egl-key-drop-idle-rows-determined κs a x y v w = said-written 7
 
 pub egl-key-switching-row-answer-determined : Determined egl-key-switching-row-answer.ended egl-key-switching-row-answer.Reads.Learnt
 egl-key-switching-row-answer-determined κs a x y v w = said

@@ -6,6 +6,7 @@ ghost use Rattle.key.specs.Offset.{offsetOut};
 ghost use Rattle.key.specs.Testvec.{testNumber, testPair};
 ghost use Rattle.key.specs.Switching.{lookupNumber, placeOut};
 ghost use Rattle.key.specs.Generation.{generateNumber, generated};
+ghost use Rattle.key.specs.Former.{dropNumber, withoutIdle};
 ghost use Rattle.packing.specs.Packed.{packed, packedWith};
 use packing::numbers;
 use packing::pack;
@@ -49,7 +50,7 @@ pub extern "C" fn egl_key_gen_testvec(
     pack(key::gen_testvec(numbers(n, nbit, bgbit, l, basebit, t), a, b))
 }
 
-// `gen_key_switching_key` with lent masks and noise, drawn in row order by the rows with k from 1. Refusals: 1, 2, 4.
+// `gen_key_switching_key` with lent masks and noise, drawn in row order. Refusals: 1, 2, 4.
 #[no_mangle]
 pub extern "C" fn egl_key_gen_key_switching_key(
     n: u32,
@@ -75,6 +76,24 @@ pub extern "C" fn egl_key_gen_key_switching_key(
         noise,
         out,
     ))
+}
+
+// A switching key in the layout before 02, 2026-06, without its idle rows. Refusals: 1, 2.
+#[no_mangle]
+pub extern "C" fn egl_key_drop_idle_rows(
+    n: u32,
+    nbit: u32,
+    bgbit: u32,
+    l: u32,
+    basebit: u32,
+    t: u32,
+    former: &[u32],
+    out: &mut [u32],
+) -> u64
+    ensures said { λ r. ⌜ r ≡ packed (answer (dropNumber (numbers n nbit bgbit l basebit t) (length (now (former .entry))) (length (now (out .entry))))) ⌝ }
+    ensures written { λ r. ⌜ now (out .exit) ≡ ifDone (dropNumber (numbers n nbit bgbit l basebit t) (length (now (former .entry))) (length (now (out .entry)))) (withoutIdle (numbers n nbit bgbit l basebit t) (now (former .entry))) (now (out .entry)) ⌝ }
+{
+    pack(key::drop_idle_rows(numbers(n, nbit, bgbit, l, basebit, t), former, out))
 }
 
 // What a lookup of row (i, j, k) in a switching key of so many words is answered. Refusals: 1, 2, 3.

@@ -12,14 +12,14 @@ use Rattle.key.specs.Switching.{rowPart, rowIndex}
 use Rattle.switching.specs.Switched.{rounding, rounded, maskField}
 use Rattle.encrypted_run.specs.Rows.{RowsAlike}
 
--- n 1, N 2, BASEBIT 1, T 1: rows (i, j, k) of two words, four in all
+-- n 1, N 2, BASEBIT 1, T 1: rows (0, 0, 1) and (1, 0, 1) of two words
 abbrev two : Params
 two = numbers 1 1 6 3 1 1
 
 -- the first mask's field is 0 and the second's is 1, so row (1, 0, 1), the last, is used: the keys share it and nothing else
-pub idle-rows : RowsAlike two (1 ∷ 2 ∷ 3 ∷ 4 ∷ 5 ∷ 6 ∷ 7 ∷ 8 ∷ []) (9 ∷ 9 ∷ 9 ∷ 9 ∷ 9 ∷ 9 ∷ 7 ∷ 8 ∷ []) (0 ∷ 0x80000000 ∷ 9 ∷ [])
+pub unused-row : RowsAlike two (5 ∷ 6 ∷ 7 ∷ 8 ∷ []) (9 ∷ 9 ∷ 7 ∷ 8 ∷ []) (0 ∷ 0x80000000 ∷ 9 ∷ [])
 unfolding RowsAlike Q part rowPart rowIndex rounding rounded fieldOf maskField
-idle-rows zero zero x hi hj hx nonzero = absurd (nonzero refl)
-idle-rows (suc zero) zero x hi hj hx nonzero = refl
-idle-rows (suc (suc i)) zero x hi hj hx nonzero = absurd (let f : ⊥ = omega (arith, hi) in f)
-idle-rows i (suc j) x hi hj hx nonzero = absurd (let f : ⊥ = omega (arith, hj) in f)
+unused-row zero zero x hi hj hx nonzero = absurd (nonzero refl)
+unused-row (suc zero) zero x hi hj hx nonzero = refl
+unused-row (suc (suc i)) zero x hi hj hx nonzero = absurd (let f : ⊥ = omega (arith, hi) in f)
+unused-row i (suc j) x hi hj hx nonzero = absurd (let f : ⊥ = omega (arith, hj) in f)

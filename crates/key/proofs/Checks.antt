@@ -1,15 +1,17 @@
 -- The refusals of this crate's routines: what arguments that are not refused have, and that such arguments are not refused, from the tables' laws.
 -- Assumes nothing.
 use mathlib.Core.Path.{_≡_, refl, ap, _∙_}
-use Prim.Native.Nat.{ℕ, _%_, _<_}
+use Prim.Native.Nat.{ℕ, _%_, _≤_, _<_}
 use native.Mathlib.Decide.{ℕ-discrete}
-use mathlib.Core.Bool.{true}
+use mathlib.Core.Bool.{Bool, true, false}
 use mathlib.Core.List.{List, [], _∷_}
-use borrow.Author.Tests.{ne-eqb}
+use borrow.Author.Tests.{eq-eqb, ne-eqb}
+use lib.Dec.{ltb}
 use lib.ListN.{length}
 use Rattle.ring.specs.Word.{Q}
 use Rattle.params.specs.declared.Params.{Params}
 use Rattle.params.specs.declared.Sizes.{Sizes}
+use Rattle.params.specs.Refusal.{check}
 use Rattle.params.specs.Ranges.{paramsNumber, InRange}
 use Rattle.params.specs.Sizes.{size, base, bitWords, sizesOf, sizesIn, switchingWords, bootstrappingWords}
 use Rattle.params.proofs.Answers.{when-done}
@@ -60,23 +62,34 @@ pub record LookupGood (p : Params) (len i j k : ℕ) : Type 0 where
   pub key : len ≡ switchingWords p
   pub outer : i < size p
   pub field : j < p .t
+  pub digit-from : 1 ≤ k
   pub digit : k < base p
 
 pub lookup-good : (p : Params) (len i j k : ℕ) → lookupNumber p len i j k ≡ 0 → LookupGood p len i j k
 unfolding lookupNumber
 lookup-good p len i j k e =
     let f = good p (lookupChecks p len i j k) refl e in
-    record { range = in-range p (f .0); key = f .1 .0; outer = f .1 .1 .0; field = f .1 .1 .1 .0; digit = f .1 .1 .1 .1 .0 }
+    record { range = in-range p (f .0); key = f .1 .0; outer = f .1 .1 .0; field = f .1 .1 .1 .0; digit-from = f .1 .1 .1 .1 .0; digit = f .1 .1 .1 .1 .1 .0 }
 
 -- for callers: good arguments are not refused
-pub lookup-done : (p : Params) (len i j k : ℕ) → paramsNumber p ≡ 0 → len ≡ switchingWords p → i < size p → j < p .t → k < base p
+pub lookup-done : (p : Params) (len i j k : ℕ) → paramsNumber p ≡ 0 → len ≡ switchingWords p → i < size p → j < p .t → 1 ≤ k → k < base p
     → lookupNumber p len i j k ≡ 0
 unfolding lookupNumber
-lookup-done p len i j k e l hi hj hk = done p (lookupChecks p len i j k) (e, (l, (hi, (hj, (hk, tt)))))
+lookup-done p len i j k e l hi hj from hk = done p (lookupChecks p len i j k) (e, (l, (hi, (hj, (from, (hk, tt))))))
+
+-- and k = 0 is refused with 3, whatever i and j
+pub lookup-at-zero : (p : Params) (i j k : ℕ) → paramsNumber p ≡ 0 → k ≡ 0 → lookupNumber p (switchingWords p) i j k ≡ 3
+unfolding lookupNumber
+lookup-at-zero p i j k e z = rw (eq-eqb (paramsNumber p) 0 e, eq-eqb (switchingWords p) (switchingWords p) refl, z) (go (ltb i (size p)) (ltb j (p .t)))
+  where
+    go : (a b : Bool) → check a 3 (check b 3 3) ≡ 3
+    go true true = refl
+    go true false = refl
+    go false b = refl
 
 -- the code's chain, BASE being what `ring::power` gives: in range it is BASE, and out of range nothing hangs on it
 abbrev lookupBy : Params → ℕ → ℕ → ℕ → ℕ → ℕ → Sizes → List Check
-lookupBy p b len i j k s = is len (s .ksk) 2 ∷ below i (s .size) 3 ∷ below j (p .t) 3 ∷ below k b 3 ∷ []
+lookupBy p b len i j k s = is len (s .ksk) 2 ∷ below i (s .size) 3 ∷ below j (p .t) 3 ∷ below 0 k 3 ∷ below k b 3 ∷ []
 
 pub lookup-chained : (p : Params) (len i j k : ℕ) {b : ℕ} {s : Sizes} → b ≡ base p % Q → s ≡ sizesOf p → chain (s .number) (lookupBy p b len i j k s) ≡ lookupNumber p len i j k
 unfolding lookupNumber

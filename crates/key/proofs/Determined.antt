@@ -8,6 +8,7 @@ use Rattle.key.proofs.row_index as row-index
 use Rattle.key.proofs.switching_row_answer as switching-row-answer
 use Rattle.key.proofs.switching_row as switching-row
 use Rattle.key.proofs.gen_key_switching_key as gen-key-switching-key
+use Rattle.key.proofs.former.drop_idle_rows as drop-idle-rows
 use Rattle.key.proofs.bits.bit_rows_answer as bit-rows-answer
 use Rattle.key.proofs.bits.bit_rows as bit-rows
 
@@ -29,6 +30,9 @@ switching-row-determined κs a x y v w _ _ p q = (coincide p q, refl)
 
 pub gen-key-switching-key-determined : Determined gen-key-switching-key.ended gen-key-switching-key.Reads.Learnt
 gen-key-switching-key-determined κs a x y v w = said-written 5
+
+pub drop-idle-rows-determined : Determined drop-idle-rows.ended drop-idle-rows.Reads.Learnt
+drop-idle-rows-determined κs a x y v w = said-written 2
 
 pub bit-rows-answer-determined : Determined bit-rows-answer.ended bit-rows-answer.Reads.Learnt
 bit-rows-answer-determined κs a x y v w = said

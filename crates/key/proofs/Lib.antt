@@ -1,7 +1,12 @@
 pub mod Checks
 pub mod OffsetRule
+pub mod Mixed
+pub mod Places
 pub mod Rows
 pub mod Draws
+pub mod IdleRows
+pub mod FormerKey
 pub mod Errors
 pub mod Examples
 pub mod Determined
+pub mod Contracts

@@ -7,24 +7,28 @@ use mathlib.Core.List.{List}
 use native.Mathlib.Nat.{mul-le-mul-right, mod-eq-of-lt}
 use lib.ListN.{length}
 use native.Mathlib.Omega.{arith}
-use Rattle.ring.specs.Word.{Q}
-use Rattle.ring.proofs.Words.{mul-mod-l}
+use Rattle.ring.specs.Word.{Q, neg}
+use Rattle.ring.proofs.Words.{mul-mod-l, mul-mod-r}
 use Rattle.ring.proofs.Parts.{part-length}
 use Rattle.params.specs.declared.Params.{Params}
 use Rattle.params.specs.Ranges.{InRange}
-use Rattle.params.specs.Sizes.{size, base, switchingRows, switchingWords, bitWords, bootstrappingWords}
-use Rattle.params.proofs.Ranges.{sizes-small, base-to}
+use Rattle.params.specs.Sizes.{size, base, switchingWords, bitWords, bootstrappingWords}
+use Rattle.params.proofs.Ranges.{sizes-small, base-from, base-to}
 use Rattle.key.specs.Switching.{rowIndex, rowPart}
 use Rattle.key.specs.Bits.{bitRows}
+use Rattle.key.proofs.Places.{row-below}
 
 -- the code's way to the place
-pub index-code : (p : Params) (i j k : ℕ) {b f o n s r : ℕ} → b ≡ base p % Q → f ≡ b * p .t % Q → o ≡ f * i % Q → n ≡ b * j % Q → s ≡ (o + n) % Q → r ≡ (s + k) % Q
+pub index-code : (p : Params) (i j k : ℕ) {b d m f o r : ℕ} → b ≡ base p % Q → d ≡ (b + neg 1) % Q → m ≡ p .t * i % Q → f ≡ (m + j) % Q → o ≡ d * f % Q → r ≡ (o + (k - 1)) % Q
     → r ≡ rowIndex p i j k % Q
-unfolding rowIndex Q
-index-code p i j k {b} {f} {o} {n} {s} {r} eb ef eo en es er =
-    let f' : f ≡ base p * p .t % Q = ef ∙ ap (λ (x : ℕ). x * p .t % Q) eb ∙ mul-mod-l (base p) (p .t) in
-    let o' : o ≡ base p * p .t * i % Q = eo ∙ ap (λ (x : ℕ). x * i % Q) f' ∙ mul-mod-l (base p * p .t) i in
-    let n' : n ≡ base p * j % Q = en ∙ ap (λ (x : ℕ). x * j % Q) eb ∙ mul-mod-l (base p) j in
+unfolding rowIndex Q neg
+index-code p i j k {b} {d} {m} {f} {o} {r} eb ed em ef eo er =
+    let from = base-from p in
+    let d' : d ≡ (base p - 1) % Q = omega arith in
+    let f' : f ≡ (p .t * i + j) % Q = omega arith in
+    let o' : o ≡ (base p - 1) * (p .t * i + j) % Q =
+    eo ∙ ap (λ (x : ℕ). x * f % Q) d' ∙ mul-mod-l (base p - 1) f ∙ ap (λ (x : ℕ). (base p - 1) * x % Q) f' ∙ mul-mod-r (base p - 1) (p .t * i + j)
+    in
     omega arith
 
 -- row r of so many ends within them
@@ -40,20 +44,13 @@ pub bit-length : (p : Params) (key : List ℕ) (i : ℕ) → length key ≡ boot
 unfolding bitRows
 bit-length p key i e h = part-length key (i * bitWords p) (bitWords p) (rw e (row-ends i (p .n) (bitWords p) h))
 
-module _ (p : Params) (i j k : ℕ) (hi : i < size p) (hj : j < p .t) (hk : k < base p) where
-  pub row-below : rowIndex p i j k < switchingRows p
-  unfolding rowIndex
-  row-below =
-      let a : (i * p .t + j + 1) * base p ≤ (i + 1) * p .t * base p = mul-le-mul-right (base p) (omega arith) in
-      let b : (i + 1) * p .t * base p ≤ size p * p .t * base p = mul-le-mul-right (base p) (mul-le-mul-right (p .t) (omega arith)) in
-      omega arith
-
+module _ (p : Params) (i j k : ℕ) (hi : i < size p) (hj : j < p .t) (from : 1 ≤ k) (hk : k < base p) where
   pub row-end : rowIndex p i j k * (p .n + 1) + (p .n + 1) ≤ switchingWords p
-  row-end = let a = mul-le-mul-right (p .n + 1) row-below in omega arith
+  row-end = row-ends _ _ (p .n + 1) (row-below p i j k hj from hk hi)
 
   pub row-small : InRange p → rowIndex p i j k % Q ≡ rowIndex p i j k
   unfolding Q
-  row-small r = let a = row-below in let s = sizes-small p r in mod-eq-of-lt (omega arith)
+  row-small r = let a = row-below p i j k hj from hk hi in let s = sizes-small p r in mod-eq-of-lt (omega arith)
 
   -- a row has its n + 1 words
   pub row-length : (key : List ℕ) → length key ≡ switchingWords p → length (rowPart p key i j k) ≡ p .n + 1

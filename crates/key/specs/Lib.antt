@@ -4,4 +4,6 @@ pub mod Testvec
 pub mod Switching
 pub mod Bits
 pub mod Generation
+pub mod Former
+pub mod FormerKey
 pub mod Private

@@ -5,8 +5,8 @@ ghost use Prim.Native.Nat.{_+_, _-_, _*_, _%_, _^_, _≤_, _<_};
 ghost use lib.ListN.{length};
 ghost use Rattle.ring.specs.Word.{Q};
 ghost use Rattle.ring.specs.Phase.{inner};
-ghost use Rattle.params.specs.Sizes.{size, base, switchingRows, switchingWords};
-ghost use Rattle.key.specs.Generation.{drawnRow, generatedRow, generated, rowOuter, rowField, rowDigit};
+ghost use Rattle.params.specs.Sizes.{switchingRows, switchingWords};
+ghost use Rattle.key.specs.Generation.{generatedRow, generated};
 ghost use Rattle.key.specs.Private.{Lent};
 use params::Params;
 
@@ -53,31 +53,7 @@ fn carried_word(basebit: u32, z: u32, j: u32, k: u32) -> u32
     ring::mul(ring::mul(k, z), ring::power(32 - (j + 1) * basebit))
 }
 
-// Row (i, j, k), k from 1.
-fn drawn_into(
-    p: Params,
-    key_lv0: &[u32],
-    key_lv1: &[u32],
-    masks: &[u32],
-    noise: &[u32],
-    i: usize,
-    j: usize,
-    k: usize,
-    out: &mut [u32],
-)
-    requires { ⌜ (Lent p (length (now «key_lv0»)) (length (now «key_lv1»)) (length (now masks)) (length (now noise))) × (i < size p) × (j < p .t) × (1 ≤ k) × (k < base p) × (length (now out) ≡ p .n + 1) ⌝ }
-    ensures { λ _. ⌜ now (out .exit) ≡ drawnRow p (now («key_lv0» .entry)) (now («key_lv1» .entry)) (now (masks .entry)) (now (noise .entry)) i j k ⌝ }
-{
-    let base = ring::power(p.basebit) as usize;
-    let d = (i * (p.t as usize) + j) * (base - 1) + (k - 1);
-    let n = p.n as usize;
-    let from = d * n;
-    let to = from + n;
-    let word = carried_word(p.basebit, key_lv1[i], j as u32, k as u32);
-    encrypted(key_lv0, word, &masks[from..to], noise[d], out);
-}
-
-// Row number r.
+// Row number r, which is row (i, j, k): its masks and its noise word are those of its number.
 fn row_into(
     p: Params,
     key_lv0: &[u32],
@@ -88,19 +64,19 @@ fn row_into(
     out: &mut [u32],
 )
     requires { ⌜ (Lent p (length (now «key_lv0»)) (length (now «key_lv1»)) (length (now masks)) (length (now noise))) × (r < switchingRows p) × (length (now out) ≡ p .n + 1) ⌝ }
-    ensures { λ _. ⌜ now (out .exit) ≡ generatedRow p (now («key_lv0» .entry)) (now («key_lv1» .entry)) (now (masks .entry)) (now (noise .entry)) (rowOuter p r) (rowField p r) (rowDigit p r) ⌝ }
+    ensures { λ _. ⌜ now (out .exit) ≡ generatedRow p (now («key_lv0» .entry)) (now («key_lv1» .entry)) (now (masks .entry)) (now (noise .entry)) r ⌝ }
 {
-    let base = ring::power(p.basebit) as usize;
+    let digits = ring::power(p.basebit) as usize - 1;
     let t = p.t as usize;
-    let k = r % base;
-    if k == 0 {
-        words::fill(0, out);
-        return;
-    }
-    let field = r / base;
+    let field = r / digits;
     let i = field / t;
     let j = field % t;
-    drawn_into(p, key_lv0, key_lv1, masks, noise, i, j, k, out);
+    let k = r % digits + 1;
+    let word = carried_word(p.basebit, key_lv1[i], j as u32, k as u32);
+    let n = p.n as usize;
+    let from = r * n;
+    let to = from + n;
+    encrypted(key_lv0, word, &masks[from..to], noise[r], out);
 }
 
 // All rows.

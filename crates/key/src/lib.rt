@@ -12,10 +12,12 @@ ghost use Rattle.key.specs.Switching.{rowIndex, rowPart, lookupNumber, p
 ghost use Rattle.key.specs.Generation.{generateNumber, generated};
 
 mod bits;
+mod former;
 mod generate;
 
 pub use bits::bit_rows;
 pub use bits::bit_rows_answer;
+pub use former::drop_idle_rows;
 use params::Answer;
 use params::Params;
 use utils::Torus;
@@ -90,14 +92,14 @@ pub fn gen_testvec(p: Params, a: &mut [u32], b: &mut [u32]) -> Answer
     }
 }
 
-// The place of row (i, j, k) among the rows of the switching key, taken modulo 2^32: a key in range has far fewer rows (`row-small`).
+// The place of row (i, j, k), k from 1, among the rows of the switching key, taken modulo 2^32: a key in range has far fewer rows (`row-small`).
 fn place_of(p: Params, i: u32, j: u32, k: u32) -> u32
+    requires { ⌜ 1 ≤ k ⌝ }
     ensures { λ r. ⌜ r ≡ rowIndex p i j k % Q ⌝ }
 {
-    let base = ring::power(p.basebit);
-    let outer = ring::mul(ring::mul(base, p.t), i);
-    let inner = ring::mul(base, j);
-    ring::add(ring::add(outer, inner), k)
+    let digits = ring::sub(ring::power(p.basebit), 1);
+    let field = ring::add(ring::mul(p.t, i), j);
+    ring::add(ring::mul(digits, field), k - 1)
 }
 
 // The refusal of a lookup: the parameters, the key's length, then the three indices.
@@ -109,6 +111,7 @@ fn lookup_number(p: Params, len: usize, i: usize, j: usize, k: usize) -> u32
     let number = refusals::is(s.number, len, s.ksk, 2);
     let number = refusals::below(number, i, s.size, 3);
     let number = refusals::below(number, j, p.t as usize, 3);
+    let number = refusals::below(number, 0, k, 3);
     refusals::below(number, k, base, 3)
 }
 
@@ -175,7 +178,7 @@ fn generate_number(
     refusals::also(number, tlwe::keys::is_binary(key_lv1), 4)
 }
 
-// `gen_key_switching_key` with lent masks and noise, drawn in row order by the rows with k from 1. Refusals: 1, 2, 4.
+// `gen_key_switching_key` with lent masks and noise, drawn in row order. Refusals: 1, 2, 4.
 pub fn gen_key_switching_key(
     p: Params,
     key_lv0: &[u32],

@@ -4,7 +4,7 @@
 use mathlib.Core.Bool.{Bool, true, false}
 use mathlib.Core.List.{List, []}
 use mathlib.Core.Path.{_≡_, refl, sym, ap, _∙_}
-use Prim.Native.Nat.{ℕ, _+_, _≤_}
+use Prim.Native.Nat.{ℕ, _+_, _-_, _≤_}
 use native.Mathlib.Decide.{ℕ-discrete}
 use native.Mathlib.Nat.{mul-le-mul}
 use native.Mathlib.Omega.{arith}
@@ -14,8 +14,8 @@ use Rattle.ring.specs.Pair.{Pair}
 use Rattle.params.specs.declared.Params.{Params}
 use Rattle.params.specs.Ranges.{paramsNumber}
 use Rattle.params.specs.Refusal.{check, ifDone}
-use Rattle.params.specs.Sizes.{size, base, switchingWords, bootstrappingWords}
-use Rattle.params.proofs.Ranges.{in-range, size-from, base-from}
+use Rattle.params.specs.Sizes.{size, switchingWords, bootstrappingWords}
+use Rattle.params.proofs.Ranges.{in-range, size-from, base-two}
 use Rattle.key.specs.Switching.{rowPart, lookupNumber}
 use Rattle.key.specs.Bits.{bitRows, bitRowsNumber}
 use Rattle.switching.specs.Switched.{switchNumber, switched}
@@ -59,8 +59,11 @@ module _ {p : Params} {w : ℕ} {number : List ℕ → ℕ} (r : Refuses p w num
 module _ (p : Params) where
   -- a key has a word at least
   some-switching : paramsNumber p ≡ 0 → switchingWords p ≡ 0 → ⊥
-  some-switching e z = let r = in-range p e in omega (arith, z, mul-le-mul (mul-le-mul (mul-le-mul (size-from p) (r .t-from)) (base-from p)) (one (p .n)))
+  some-switching e z = let r = in-range p e in omega (arith, z, mul-le-mul (mul-le-mul (mul-le-mul (size-from p) (r .t-from)) (digits (base-two p r))) (one (p .n)))
     where
+      digits : {b : ℕ} → 2 ≤ b → 1 ≤ b - 1
+      digits h = omega arith
+
       one : (n : ℕ) → 1 ≤ n + 1
       one n = omega arith
 

@@ -80,6 +80,10 @@ module _ (p : Params) (r : InRange p) where
   pub size-two : 2 ≤ size p
   size-two = pow-mono {i = 1} {j = p .nbit} (r .nbit-from)
 
+  -- BASE is even, so a field has a value that uses a row
+  pub base-two : 2 ≤ base p
+  base-two = pow-mono {i = 1} {j = p .basebit} (r .basebit-from)
+
   pub base-to : base p ≤ 64
   base-to = pow-mono {i = p .basebit} {j = 6} (r .basebit-to)
 
@@ -92,10 +96,9 @@ module _ (p : Params) (r : InRange p) where
 -- every product on the way to a length is far from 2^64
 pub record Small (N B t l n : ℕ) : Type 0 where
   pub fields : N * t ≤ 30720
-  pub rows : N * t * B ≤ 1966080
-  pub key : N * t * B * (n + 1) ≤ 2164654080
-  pub drawing : N * t * (B - 1) ≤ 1966080
-  pub masks : N * t * (B - 1) * n ≤ 2162688000
+  pub rows : N * t * (B - 1) ≤ 1935360
+  pub key : N * t * (B - 1) * (n + 1) ≤ 2130831360
+  pub masks : N * t * (B - 1) * n ≤ 2128896000
   pub bit : (l + l) * (N + N) ≤ 131072
   pub bits : n * ((l + l) * (N + N)) ≤ 144179200
   pub bitmask : (l + l) * N ≤ 65536
@@ -104,9 +107,8 @@ pub record Small (N B t l n : ℕ) : Type 0 where
 pub small : (N B t l n : ℕ) → N ≤ 1024 → B ≤ 64 → t ≤ 30 → l ≤ 32 → n ≤ 1100 → Small N B t l n
 small N B t l n hN hB ht hl hn =
     let f = mul-le-mul hN ht in
-    let r = mul-le-mul f hB in
-    let b1 : B - 1 ≤ 64 = omega arith in
-    let d = mul-le-mul f b1 in
+    let b1 : B - 1 ≤ 63 = omega arith in
+    let r = mul-le-mul f b1 in
     let m : n + 1 ≤ 1101 = omega arith in
     let ll : l + l ≤ 64 = omega arith in
     let NN : N + N ≤ 2048 = omega arith in
@@ -116,8 +118,7 @@ small N B t l n hN hB ht hl hn =
       fields = f;
       rows = r;
       key = mul-le-mul r m;
-      drawing = d;
-      masks = mul-le-mul d hn;
+      masks = mul-le-mul r hn;
       bit = b;
       bits = mul-le-mul hn b;
       bitmask = bm;

@@ -13,21 +13,17 @@ size p = 2 ^ p .nbit
 abbrev pub base : Params → ℕ
 base p = 2 ^ p .basebit
 
--- The rows of the switching key: row (i, j, k) for i below N, j below T, k below BASE.
+-- The rows of the switching key: row (i, j, k) for i below N, j below T, k from 1 to BASE - 1. A field that is 0 uses no row, so none stands for k = 0 (02, 2026-06).
 abbrev pub switchingRows : Params → ℕ
-switchingRows p = size p * p .t * base p
-
--- The rows of the switching key that draw masks and noise: those with k from 1.
-abbrev pub drawingRows : Params → ℕ
-drawingRows p = size p * p .t * (base p - 1)
+switchingRows p = size p * p .t * (base p - 1)
 
 -- The words of one bit's part of the bootstrapping key: 2L rows of 2N words.
 abbrev pub bitWords : Params → ℕ
 bitWords p = (p .l + p .l) * (size p + size p)
 
--- The words of the switching key: n + 1 for each of its N·T·BASE rows.
+-- The words of the switching key: n + 1 for each of its rows.
 abbrev pub switchingWords : Params → ℕ
-switchingWords p = size p * p .t * base p * (p .n + 1)
+switchingWords p = switchingRows p * (p .n + 1)
 
 -- The words of the bootstrapping key: one part for each bit of the level-0 key.
 abbrev pub bootstrappingWords : Params → ℕ
@@ -42,8 +38,8 @@ sizesIn p = record {
   level0 = p .n + 1;
   level1 = size p + 1;
   ksk = switchingWords p;
-  kskmasks = drawingRows p * p .n;
-  ksknoise = drawingRows p;
+  kskmasks = switchingRows p * p .n;
+  ksknoise = switchingRows p;
   bit = bitWords p;
   bsk = bootstrappingWords p;
   bitmasks = (p .l + p .l) * size p;

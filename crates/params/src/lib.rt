@@ -117,16 +117,16 @@ fn sizes_in(p: Params) -> Sizes
     let rows = (p.l as usize) + (p.l as usize);
     let bit = rows * (size + size);
     let bitmasks = rows * size;
-    let drawing = fields * (base - 1);
+    let switching = fields * (base - 1);
     Sizes {
         number: 0,
         n,
         size,
         level0: n + 1,
         level1: size + 1,
-        ksk: fields * base * (n + 1),
-        kskmasks: drawing * n,
-        ksknoise: drawing,
+        ksk: switching * (n + 1),
+        kskmasks: switching * n,
+        ksknoise: switching,
         bit,
         bsk: n * bit,
         bitmasks,

@@ -156,17 +156,8 @@ fn trgsw_blind_rotate() {
 
 fn trgsw_identity_key_switching() {
     let src: [u32; 3] = [0xd3fee3d2, 0x6c322529, 0x207feb15];
-    let ksk: [u32; 8] = [
-        0x9a455600,
-        0xbda8eb6,
-        0xf5fa2e4,
-        0x5e050b66,
-        0x96cbe875,
-        0x6f4d259a,
-        0xf9976c50,
-        0x245255e2,
-    ];
-    let mut out: [u32; 2] = [0xa948fe90, 0xc09976bb];
+    let ksk: [u32; 4] = [0x9a455600, 0xbda8eb6, 0xf5fa2e4, 0x5e050b66];
+    let mut out: [u32; 2] = [0x96cbe875, 0x6f4d259a];
     let r = switching::identity_key_switching(set_0(), &src, &ksk, &mut out);
     show::words(b"trgsw_identity_key_switching", r, &out);
 }

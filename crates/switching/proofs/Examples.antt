@@ -19,19 +19,19 @@ use Rattle.switching.specs.Switched.{switchNumber, rounding, rounded, ma
 abbrev fields : ℕ → List ℕ
 fields a = tab 8 (maskField security110 (a ∷ []) 0)
 
--- n 1, N 2, BASEBIT 1, T 1: rows (i, j, k) of 2 words, the idle rows 0 and 2 holding junk
+-- n 1, N 2, BASEBIT 1, T 1: rows (0, 0, 1) and (1, 0, 1) of 2 words
 abbrev two : Params
 two = numbers 1 1 6 3 1 1
 
 abbrev key : List ℕ
-key = 77 ∷ 77 ∷ 5 ∷ 6 ∷ 77 ∷ 77 ∷ 7 ∷ 8 ∷ []
+key = 5 ∷ 6 ∷ 7 ∷ 8 ∷ []
 
 pub examples :
     (fields 0x7FFF ≡ 0 ∷ 0 ∷ 0 ∷ 0 ∷ 0 ∷ 0 ∷ 0 ∷ 0 ∷ [])
     × (fields 0xFFFF8000 ≡ 0 ∷ 0 ∷ 0 ∷ 0 ∷ 0 ∷ 0 ∷ 0 ∷ 0 ∷ [])
     × (fields 0x8000 ≡ 0 ∷ 0 ∷ 0 ∷ 0 ∷ 0 ∷ 0 ∷ 0 ∷ 1 ∷ [])
-    × (switchNumber two 3 8 2 ≡ 0)
-    × (switchNumber two 3 7 2 ≡ 2)
+    × (switchNumber two 3 4 2 ≡ 0)
+    × (switchNumber two 3 8 2 ≡ 2)
     × (switched two key (0 ∷ 0x80000000 ∷ 9 ∷ []) ≡ 0xFFFFFFF9 ∷ 1 ∷ [])
     × (switched two key (0x40000000 ∷ 0x3FFFFFFF ∷ 9 ∷ []) ≡ 0xFFFFFFFB ∷ 3 ∷ [])
     × (switched two key (0xC0000000 ∷ 0 ∷ 9 ∷ []) ≡ 0 ∷ 9 ∷ [])

@@ -10,6 +10,7 @@ use crate::ffi::column::*;
 use crate::ffi::gates::egl_gates_not;
 use crate::honest::Keys;
 use crate::junk;
+use crate::layout;
 use crate::sizes::Sizes;
 use crate::source::Source;
 use oracle_api::Cloud;
@@ -149,7 +150,7 @@ fn one_changed(tally: &mut Tally, source: &mut Source, keys: &Keys, kind: usize,
 
 /// The original's batches on the same pairs: word for word, but that its xnor is the library's gate of that name and not kind 8.
 fn batches(tally: &mut Tally, source: &mut Source, set: &Set, keys: &Keys, longest: usize) {
-    let Some(cloud) = set.original.map(|o| o.cloud(&keys.switching, &keys.bootstrapping)) else { return };
+    let Some(cloud) = set.original.map(|o| layout::cloud(o, &keys.switching, &keys.bootstrapping)) else { return };
     let words = keys.p[0] as usize + 1;
     let pairs: Vec<u32> = (0..longest).flat_map(|_| source.words(2 * words)).collect();
     for (kind, name) in KINDS.zip(BATCHES) {
@@ -169,7 +170,7 @@ fn batches(tally: &mut Tally, source: &mut Source, set: &Set, keys: &Keys, longe
 /// the other one.
 fn with_honest(tally: &mut Tally, source: &mut Source, set: &Set, columns: &[(usize, usize)]) {
     let keys = Keys::new(&mut Source::new(crate::SEED, set.name), set.p);
-    let cloud = set.original.map(|o| o.cloud(&keys.switching, &keys.bootstrapping));
+    let cloud = set.original.map(|o| layout::cloud(o, &keys.switching, &keys.bootstrapping));
     for &(kind, count) in columns {
         let bits: Vec<[bool; 2]> = (0..count).map(|i| [(i + kind) & 1 == 1, (i + kind) & 2 == 2]).collect();
         let pairs: Vec<u32> = bits.iter().flatten().flat_map(|bit| keys.encrypt(source, *bit)).collect();

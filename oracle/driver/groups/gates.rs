@@ -8,6 +8,7 @@ use crate::exact_run;
 use crate::exact_words::agreed;
 use crate::ffi::gates::*;
 use crate::honest::Keys;
+use crate::layout;
 use crate::sizes::Sizes;
 use crate::source::Source;
 use oracle_api::Cloud;
@@ -124,7 +125,7 @@ fn junk(set: &Set, tally: &mut Tally, count: usize) {
         let (key_lv0, key_lv1) = (Vec::new(), Vec::new());
         let keys = Keys { p: set.p, key_lv0, key_lv1, switching: words(s.switching()), bootstrapping: words(s.bootstrapping()) };
         let (a, b, c) = (words(s.n + 1), words(s.n + 1), words(s.n + 1));
-        let cloud = o.cloud(&keys.switching, &keys.bootstrapping);
+        let cloud = layout::cloud(o, &keys.switching, &keys.bootstrapping);
         for (name, ..) in exact::SUMS {
             let got = library(&set.p, name, &[&a, &b], &keys);
             tally.same(got == Some(cloud.gate(name, &a, &b, &c)), || format!("{name} with junk keys and the original"));
@@ -150,7 +151,7 @@ fn honest(set: &Set, tally: &mut Tally, cost: usize) {
     };
     let mut source = Source::new(crate::SEED, &format!("honest {}", set.name));
     let keys = Keys::new(&mut source, set.p);
-    let cloud = set.original.map(|o| o.cloud(&keys.switching, &keys.bootstrapping));
+    let cloud = set.original.map(|o| layout::cloud(o, &keys.switching, &keys.bootstrapping));
     for (g, (name, ..)) in exact::SUMS.into_iter().enumerate() {
         for pair in (0..4).filter(|pair| wanted(g, *pair)) {
             let bits = [pair & 1 == 1, pair & 2 == 2];

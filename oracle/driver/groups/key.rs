@@ -1,20 +1,26 @@
-//! Key material: the offset, the test vector, the switching key with lent masks and noise, and its rows, word for word against document 01's words and,
-//! where it is at hand, the original.
+//! Key material: the offset, the test vector, the switching key with lent masks and noise, its rows, and a former key without its idle rows, word for word against
+//! the documents' words and, where it is at hand, the original, whose key has idle rows that are dropped first. What a caller may look up and lend besides is in `key_rows`.
 
 use crate::case::{Arg, Kind, Routine, Set, Slot};
 use crate::compare::{self, Tally};
 use crate::exact;
 use crate::exact_words::{self, agreed};
 use crate::ffi::key::*;
+use crate::layout;
 use crate::list::original_offset;
 use crate::sizes::Sizes;
 use crate::table;
+use super::key_rows;
 
 const KEY0: Slot = Slot::Key(|s| s.n);
 const KEY1: Slot = Slot::Key(|s| s.ring);
 const OUT: Slot = Slot::Out(Kind::Words, |s| s.ring);
 
-pub static ROUTINES: [Routine; 5] = [
+const OUTER: Slot = Slot::Index(64, |s| s.ring - 1);
+const FIELD: Slot = Slot::Index(64, |s| s.t - 1);
+const DIGIT: Slot = Slot::Digit(|s| s.base - 1);
+
+pub static ROUTINES: [Routine; 6] = [
     Routine {
         name: "key_decomposition_offset",
         slots: &[Slot::Value],
@@ -42,21 +48,35 @@ pub static ROUTINES: [Routine; 5] = [
         slots: &[
             KEY0,
             KEY1,
-            Slot::In(Kind::Words, |s| (s.base - 1) * s.t * s.ring * s.n),
-            Slot::In(Kind::Words, |s| (s.base - 1) * s.t * s.ring),
+            Slot::In(Kind::Words, |s| s.switching_rows() * s.n),
+            Slot::In(Kind::Words, |s| s.switching_rows()),
             Slot::Out(Kind::Words, |s| s.switching()),
         ],
         cost: |s| 100 + 10 * s.switching(),
         call: egl_key_gen_key_switching_key,
         reference: |set, a| {
-            let theirs = set.original.map(|o| o.gen_key_switching_key(a[0].w(), a[1].w(), a[2].w(), a[3].w()));
+            let theirs = set.original.map(|o| layout::without_idle_rows(&set.p, &o.gen_key_switching_key(a[0].w(), a[1].w(), a[2].w(), a[3].w())));
             a[4] = Arg::Words(agreed(theirs, exact_words::switching_key(&set.p, a[0].w(), a[1].w(), a[2].w(), a[3].w())));
             true
         },
     },
     Routine {
+        name: "key_drop_idle_rows",
+        slots: &[Slot::In(Kind::Words, |s| s.former_switching()), Slot::Out(Kind::Words, |s| s.switching())],
+        cost: |s| 100 + 4 * s.former_switching(),
+        call: egl_key_drop_idle_rows,
+        reference: |set, a| {
+            let s = Sizes::of(&set.p);
+            // every row but each BASE-th from the first on
+            let rows = a[0].w().chunks(s.n + 1).enumerate().filter(|(at, _)| at % s.base != 0);
+            let left = rows.flat_map(|(_, row)| row.iter().copied()).collect();
+            a[1] = Arg::Words(agreed(Some(layout::without_idle_rows(&set.p, a[0].w())), left));
+            true
+        },
+    },
+    Routine {
         name: "key_row_index",
-        slots: &[Slot::Index(64, |s| s.ring - 1), Slot::Index(64, |s| s.t - 1), Slot::Index(64, |s| s.base - 1), Slot::Value],
+        slots: &[OUTER, FIELD, DIGIT, Slot::Value],
         cost: |_| 100,
         call: egl_key_row_index,
         reference: |set, a| {
@@ -66,13 +86,7 @@ pub static ROUTINES: [Routine; 5] = [
     },
     Routine {
         name: "key_switching_row",
-        slots: &[
-            Slot::In(Kind::Words, |s| s.switching()),
-            Slot::Index(64, |s| s.ring - 1),
-            Slot::Index(64, |s| s.t - 1),
-            Slot::Index(64, |s| s.base - 1),
-            Slot::Value,
-        ],
+        slots: &[Slot::In(Kind::Words, |s| s.switching()), OUTER, FIELD, DIGIT, Slot::Value],
         cost: |s| 100 + 4 * s.switching(),
         call: switching_row,
         reference: |set, a| {
@@ -82,22 +96,27 @@ pub static ROUTINES: [Routine; 5] = [
     },
 ];
 
-/// The place of a row among the rows, by document 01's formula.
-fn row_place(set: &Set, [i, j, k]: [usize; 3]) -> Arg {
-    let s = Sizes::of(&set.p);
-    Arg::Num((s.base * s.t * i + s.base * j + k) as u64)
+/// The routine of that name.
+pub fn routine(name: &str) -> &'static Routine {
+    ROUTINES.iter().find(|r| r.name == name).expect("a routine of the group")
 }
 
-/// The lookup of a row: the answer, and beside it the row's place, as two calls give them.
+/// The place of a row among the rows.
+fn row_place(set: &Set, row: [usize; 3]) -> Arg {
+    Arg::Num(layout::place(&Sizes::of(&set.p), row) as u64)
+}
+
+/// The lookup of a row: the answer, and beside it the row's place, as two calls give them. Where only one of them knows the row, an answer that no call gives.
 fn switching_row(p: &[u32; 6], args: &mut [Arg]) -> u64 {
     let indices = [1, 2, 3].map(|x| args[x].num());
     let mut asked = vec![Arg::Num(args[0].w().len() as u64)];
     asked.extend(indices.map(Arg::Num));
-    let answer = egl_key_switching_row_answer(p, &mut asked);
-    if answer != 0 {
-        return answer;
+    let (answer, place) = (egl_key_switching_row_answer(p, &mut asked), egl_key_row_index(p, &mut indices.map(Arg::Num)));
+    match (answer, place as u32) {
+        (0, 0) => place,
+        (0, _) | (3, 0) => u64::MAX,
+        _ => answer,
     }
-    egl_key_row_index(p, &mut indices.map(Arg::Num))
 }
 
 /// The offset by the rule of document 02 (2026-04), in 128 bits; none where the division leaves a remainder.
@@ -143,6 +162,7 @@ pub fn run(set: &Set, tally: &mut Tally) {
         compare::run(tally, r, set, 30_000_000, 300);
     }
     offsets(set, tally);
+    key_rows::run(set, tally);
     if set.p[2] == 6 && set.p[3] == 3 {
         let answer = egl_key_decomposition_offset(&set.p, &mut []);
         tally.same(answer == 0x8208_0000 << 32, || "document 01: offset at BGBIT 6, L 3".into());

@@ -25,6 +25,8 @@ pub mod encrypted;
 pub mod gates;
 #[cfg(group_key)]
 pub mod key;
+#[cfg(group_key)]
+mod key_rows;
 #[cfg(group_params)]
 pub mod params;
 #[cfg(group_product)]

@@ -6,6 +6,7 @@ use crate::compare::{self, Tally};
 use crate::exact;
 use crate::exact_words::{self, agreed};
 use crate::ffi::trgsw::*;
+use crate::layout;
 use crate::sizes::Sizes;
 use crate::source::Source;
 use super::fine;
@@ -115,7 +116,7 @@ pub static ROUTINES: [Routine; 8] = [
             pair(a, 2, want)
         },
     },
-    // The lent key holds junk in its idle rows as well: no word depends on them.
+    // The original is lent a key with idle rows, and junk in them.
     Routine {
         name: "trgsw_identity_key_switching",
         slots: &[
@@ -126,7 +127,7 @@ pub static ROUTINES: [Routine; 8] = [
         cost: |s| 100 + 4 * s.switching() + 4 * s.ring * s.t * s.n,
         call: egl_trgsw_identity_key_switching,
         reference: |set, a| {
-            let theirs = set.original.map(|o| o.cloud(a[1].w(), &[]).identity_key_switching(a[0].w()));
+            let theirs = set.original.map(|o| layout::cloud(o, a[1].w(), &[]).identity_key_switching(a[0].w()));
             a[2] = Arg::Words(agreed(theirs, exact::switch(&set.p, a[0].w(), a[1].w())));
             true
         },
@@ -206,7 +207,7 @@ fn switching_examples(set: &Set, tally: &mut Tally) {
         let used = args[2].w()[0].wrapping_neg();
         tally.same(answer == 0 && used == rows, || format!("document 01: {x:#x} uses {used} rows, wanted {rows}"));
         if let Some(o) = set.original {
-            let theirs = o.cloud(&vec![1; s.switching()], &[]).identity_key_switching(&src)[0].wrapping_neg();
+            let theirs = layout::cloud(o, &vec![1; s.switching()], &[]).identity_key_switching(&src)[0].wrapping_neg();
             tally.same(theirs == rows, || format!("document 01 and the original: {x:#x} uses {theirs} rows"));
         }
     }

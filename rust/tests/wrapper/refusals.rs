@@ -61,7 +61,8 @@ fn index_is_3() {
     let (_, cloud) = keys(2);
     let view = cloud.view();
     assert_eq!(view.switching_row(POLYNOMIAL - 1, 4, 7).map(<[u32]>::len), Ok(CIPHERTEXT));
-    for (i, j, k) in [(POLYNOMIAL, 0, 0), (0, 5, 0), (0, 0, 8), (usize::MAX, 0, 0), (1 << 32, 0, 0), (0, usize::MAX, 0), (0, 0, usize::MAX)] {
+    const TOP: usize = usize::MAX;
+    for (i, j, k) in [(POLYNOMIAL, 0, 1), (0, 5, 1), (0, 0, 8), (0, 0, 0), (TOP, 0, 1), (1 << 32, 0, 1), (0, TOP, 1), (0, 0, TOP), (0, 0, 1 << 32)] {
         assert_eq!(view.switching_row(i, j, k), Err(Refusal::Index), "{i} {j} {k}");
     }
 }

@@ -94,15 +94,16 @@ fn sets_are_those_of_the_header() {
 }
 
 #[test]
-fn lengths_are_document_01s() {
+fn lengths_are_the_documents() {
     let lengths = by_name("128").unwrap().params.lengths().unwrap();
     assert_eq!((lengths.ciphertext, lengths.polynomial, lengths.secret_level0, lengths.secret_level1), (701, 1024, 700, 1024));
-    assert_eq!(lengths.switching_key, 4 * 9 * 1024 * 701);
+    assert_eq!((lengths.switching_rows, lengths.switching_key, lengths.former_switching_key), (3 * 9 * 1024, 3 * 9 * 1024 * 701, 4 * 9 * 1024 * 701));
     assert_eq!((lengths.switching_masks, lengths.switching_noise), (3 * 9 * 1024 * 700, 3 * 9 * 1024));
     assert_eq!((lengths.bootstrapping_key, lengths.bootstrapping_masks, lengths.bootstrapping_noise), (700 * 6 * 2048, 700 * 6 * 1024, 700 * 6 * 1024));
     // The longest keys in range.
     let longest = Params::new(1100, 10, 1, 32, 6, 5).lengths().unwrap();
-    assert_eq!((longest.switching_key, longest.bootstrapping_key), (64 * 5 * 1024 * 1101, 1100 * 64 * 2048));
+    assert_eq!((longest.switching_key, longest.former_switching_key), (63 * 5 * 1024 * 1101, 64 * 5 * 1024 * 1101));
+    assert_eq!(longest.bootstrapping_key, 1100 * 64 * 2048);
 }
 
 #[test]

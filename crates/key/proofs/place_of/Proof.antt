@@ -8,9 +8,9 @@ use Rattle.key.proofs.place_of.Tie as tie
 returns : tie.Need-returns
 returns c =
     let g = c .before .before .before .before .before .before .args in
-    index-code (g .p) (g .i) (g .j) (g .k) (c .before .before .before .before .before .power .ensures) (c .before .before .before .before .mul .ensures) (c .before .before .before .mul2 .ensures) (c .before .before .mul3 .ensures) (c .before .add .ensures) (c .add2 .ensures)
+    index-code (g .p) (g .i) (g .j) (g .k) (c .before .before .before .before .before .power .ensures) (c .before .before .before .before .sub .ensures) (c .before .before .before .mul .ensures) (c .before .before .add .ensures) (c .before .mul2 .ensures) (c .add2 .ensures)
 
 pub place-of-spec : {M : Type 1} → statement M
 place-of-spec =
     tie.close
-    (tie.spec (λ c κs. search needs) (λ c κs. search needs) (λ c κs. search needs) (λ c κs. search needs) (λ c κs. search needs) (λ c κs. search needs) returns)
+    (tie.spec (λ c κs. search needs) (λ c κs. search needs) (λ c κs. search needs) (λ c κs. search needs) (λ c κs. search needs) (λ c. search needs) (λ c κs. search needs) returns)

@@ -46,9 +46,9 @@ returns-2 c =
     let d = c .before in
     let g = d .before .before .before .args in
     let l = good d in
-    ap₂ both (number (d .before)) (done _ _ _ (sym (number (d .before)) ∙ d .if1 .left) (c .place-of .ensures ∙ row-small (g .p) (g .i) (g .j) (g .k) (l .outer) (l .field) (l .digit) (l .range)))
+    ap₂ both (number (d .before)) (done _ _ _ (sym (number (d .before)) ∙ d .if1 .left) (c .place-of .ensures ∙ row-small (g .p) (g .i) (g .j) (g .k) (l .outer) (l .field) (l .digit-from) (l .digit) (l .range)))
 
 pub row-index-spec : {M : Type 1} → statement M
 row-index-spec =
     tie.close
-    (tie.spec (λ c κs. search needs) (λ c κs. search needs) returns cast-place-of cast-place-of-2 cast-place-of-3 (λ c κs. search needs) returns-2)
+    (tie.spec (λ c κs. search needs) (λ c κs. search needs) returns cast-place-of cast-place-of-2 cast-place-of-3 (λ c κs. good c .digit-from) returns-2)

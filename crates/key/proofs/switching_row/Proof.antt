@@ -20,13 +20,13 @@ good c = lookup-good _ _ _ _ _ (sym (c .before .lookup-number .ensures) ∙ c .i
 
 -- the row's place, and that it ends within the key
 row : (c : tie.After-place-of) → let g = c .before .before .before .before .args in c .place-of .result ≡ rowIndex (g .p) (g .i) (g .j) (g .k)
-row c = let g = c .before .before .before .before .args in let l = good (c .before) in c .place-of .ensures ∙ row-small (g .p) (g .i) (g .j) (g .k) (l .outer) (l .field) (l .digit) (l .range)
+row c = let g = c .before .before .before .before .args in let l = good (c .before) in c .place-of .ensures ∙ row-small (g .p) (g .i) (g .j) (g .k) (l .outer) (l .field) (l .digit-from) (l .digit) (l .range)
 
 ends : (c : tie.After-place-of) → let g = c .before .before .before .before .args in c .place-of .result * (g .p .n + 1) + (g .p .n + 1) ≤ length (g .key .now)
 ends c =
     let g = c .before .before .before .before .args in
     let l = good (c .before) in
-    rw (row c, l .key) (row-end (g .p) (g .i) (g .j) (g .k) (l .outer) (l .field) (l .digit))
+    rw (row c, l .key) (row-end (g .p) (g .i) (g .j) (g .k) (l .outer) (l .field) (l .digit-from) (l .digit))
 
 returns : tie.Need-returns
 returns c = kept _ _ _ (λ e. c .before .if1 .taken (c .before .before .lookup-number .ensures ∙ e))
@@ -60,5 +60,5 @@ returns-2 c =
 pub switching-row-spec : {M : Type 1} → statement M
 switching-row-spec =
     tie.close
-    (tie.spec (λ c κs. search needs) (λ c. search needs) returns cast-place-of cast-place-of-2 cast-place-of-3 (λ c κs. search needs) (λ c. search needs)
+    (tie.spec (λ c κs. search needs) (λ c. search needs) returns cast-place-of cast-place-of-2 cast-place-of-3 (λ c κs. good c .digit-from) (λ c. search needs)
     (λ c. search needs) (λ c. search needs) mul-at add-end mul-result (λ c. search needs) (λ c. search needs) part-result-end returns-2)

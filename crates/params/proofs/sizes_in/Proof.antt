@@ -35,23 +35,23 @@ mul-bitmasks : tie.Need-mul-bitmasks
 unfolding Q
 mul-bitmasks c = omega (arith, bounds c)
 
-sub-drawing : tie.Need-sub-drawing
+sub-switching : tie.Need-sub-switching
 unfolding Q
-sub-drawing c =
+sub-switching c =
     let p = c .before .before .before .before .before .before .args .p in
     omega (arith, base-from p, base-to p (c .before .before .before .before .before .before .pre))
 
-mul-drawing : tie.Need-mul-drawing
+mul-switching : tie.Need-mul-switching
 unfolding Q
-mul-drawing c = omega (arith, bounds c)
+mul-switching c = omega (arith, bounds c)
 
 add-t12 : tie.Need-add-t12
 unfolding Q
 add-t12 c = let p = c .before .before .before .before .before .before .args .p in omega (arith, size-to p (c .before .before .before .before .before .before .pre))
 
-mul-t13 : tie.Need-mul-t13
+mul-t14 : tie.Need-mul-t14
 unfolding Q
-mul-t13 c = omega (arith, bounds c)
+mul-t14 c = omega (arith, bounds c)
 
 mul-t15 : tie.Need-mul-t15
 unfolding Q
@@ -65,10 +65,6 @@ mul-t17 : tie.Need-mul-t17
 unfolding Q
 mul-t17 c = omega (arith, bounds c)
 
-mul-t18 : tie.Need-mul-t18
-unfolding Q
-mul-t18 c = omega (arith, bounds c)
-
 returns : tie.Need-returns
 returns c =
     let p = c .before .before .before .before .before .before .args .p in
@@ -79,5 +75,5 @@ pub sizes-in-spec : {M : Type 1} → statement M
 sizes-in-spec =
     tie.close
     (tie.spec (λ c. search needs) (λ c κs. search needs) (λ c. search needs) (λ c κs. search needs) (λ c. search needs) (λ c. search needs) mul-fields (λ c. search needs) (λ c. search needs)
-    (λ c. search needs) add-bit mul-bit mul-bitmasks sub-drawing mul-drawing (λ c. search needs) add-t12 mul-t13 (λ c. search needs) mul-t15 mul-t16 mul-t17
-    mul-t18 returns)
+    (λ c. search needs) add-bit mul-bit mul-bitmasks sub-switching mul-switching (λ c. search needs) add-t12 (λ c. search needs) mul-t14 mul-t15 mul-t16 mul-t17
+    returns)

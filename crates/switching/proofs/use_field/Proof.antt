@@ -3,6 +3,7 @@
 use mathlib.Core.Path.{_≡_, sym, ap, ap₂, _∙_}
 use mathlib.Core.List.{List}
 use Prim.Native.Nat.{ℕ, _+_}
+use native.Mathlib.Nat.{pos-of-ne-zero}
 use lib.ListN.{length}
 use Rattle.params.proofs.Answers.{when-done}
 use Rattle.params.proofs.Ranges.{not-refused}
@@ -28,7 +29,7 @@ row : (c : tie.After-switching-row) → let g = c .before .before .before .befor
 row c =
     let d = c .before .before .before .before in
     let g = d .args in
-    c .switching-row .ensures ∙ when-done _ _ _ (lookup-done (g .p) (length (g .ksk .now)) (g .i) (g .j) (g .k) (not-refused (g .p) (d .pre .0)) (d .pre .4) (d .pre .1) (d .pre .2) (d .pre .3))
+    c .switching-row .ensures ∙ when-done _ _ _ (lookup-done (g .p) (length (g .ksk .now)) (g .i) (g .j) (g .k) (not-refused (g .p) (d .pre .0)) (d .pre .4) (d .pre .1) (d .pre .2) (pos-of-ne-zero (c .before .if1 .left)) (d .pre .3))
 
 returns-2 : tie.Need-returns-2
 returns-2 c =

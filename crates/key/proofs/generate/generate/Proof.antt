@@ -1,14 +1,13 @@
 -- `key::generate::generate` meets its contract: after r turns the first r rows stand one after another.
 -- Assumes nothing.
 use mathlib.Core.Path.{_≡_, refl, ap, _∙_}
-use mathlib.Core.List.{List, _++_}
+use mathlib.Core.List.{_++_}
 use Prim.Native.Nat.{ℕ, _+_, _*_, _-_, _/_, _≤_, _<_}
 use native.Mathlib.Nat.{mul-div-cancel}
 use native.Mathlib.Omega.{arith}
 use lib.ListN.{length, drop}
-use Rattle.params.specs.declared.Params.{Params}
 use Rattle.params.specs.Sizes.{switchingRows}
-use Rattle.key.specs.Generation.{rowOuter, rowField, rowDigit, generatedRow, generated}
+use Rattle.key.specs.Generation.{generatedRow, generated}
 use Rattle.ring.proofs.Parts.{slice-length}
 use Rattle.key.proofs.Rows.{row-ends}
 use Rattle.ring.proofs.Joins.{joined-none, joined-more, joined-done}
@@ -17,14 +16,10 @@ use Rattle.key.proofs.generate.generate.Statement.{statement}
 use Rattle.key.proofs.generate.generate.Tie as tie
 use Rattle.ring.specs.Lists.{joined}
 
--- row number r
-abbrev rowAt : Params → List ℕ → List ℕ → List ℕ → List ℕ → ℕ → List ℕ
-rowAt p key z masks noise r = generatedRow p key z masks noise (rowOuter p r) (rowField p r) (rowDigit p r)
-
 abbrev Inv-loop : tie.InvT-loop
 Inv-loop p key-lv0 key-lv1 masks noise out₀ width rows r₀ out r =
-    (r ≤ switchingRows p) × (length out ≡ length out₀) × (length (joined r (rowAt p key-lv0 key-lv1 masks noise)) ≡ r * (p .n + 1))
-    × (out ≡ joined r (rowAt p key-lv0 key-lv1 masks noise) ++ drop (r * (p .n + 1)) out₀)
+    (r ≤ switchingRows p) × (length out ≡ length out₀) × (length (joined r (generatedRow p key-lv0 key-lv1 masks noise)) ≡ r * (p .n + 1))
+    × (out ≡ joined r (generatedRow p key-lv0 key-lv1 masks noise) ++ drop (r * (p .n + 1)) out₀)
 
 abbrev μ-loop : tie.MeasureT-loop
 μ-loop p key-lv0 key-lv1 masks noise out₀ width rows r₀ out r = switchingRows p - r
@@ -50,7 +45,7 @@ ends c =
 loop-holds : tie.Need-loop-holds Inv-loop μ-loop
 loop-holds c =
     let g = c .before .before .before .before .before .before .args in
-    let e = joined-none (g .p .n + 1) (rowAt (g .p) (g .key-lv0 .now) (g .key-lv1 .now) (g .masks .now) (g .noise .now)) (g .out .now) in
+    let e = joined-none (g .p .n + 1) (generatedRow (g .p) (g .key-lv0 .now) (g .key-lv1 .now) (g .masks .now) (g .noise .now)) (g .out .now) in
     (omega arith, refl, e .0, e .1)
 
 mul-at : tie.Need-mul-at Inv-loop μ-loop
@@ -82,7 +77,7 @@ loop-again c =
     let row = c .before .before .row-into .last .1 .1 .1 .1 .1 .1 .0 in
     let long = c .before .out .given .0 ∙ slice-length (l .out) _ _ (ends (c .before .before .before .before)) in
     let e =
-    joined-more (g .p .n + 1) (rowAt (g .p) (g .key-lv0 .now) (g .key-lv1 .now) (g .masks .now) (g .noise .now)) (g .out .now) (l .r) (l .inv .2) (l .inv .3) row (c .before .before .row-into .ensures) long
+    joined-more (g .p .n + 1) (generatedRow (g .p) (g .key-lv0 .now) (g .key-lv1 .now) (g .masks .now) (g .noise .now)) (g .out .now) (l .r) (l .inv .2) (l .inv .3) row (c .before .before .row-into .ensures) long
     in
     (omega (arith, within (c .before .before .before .before)), c .before .out .given .1 ∙ l .inv .1, e .0, e .1)
 
@@ -94,7 +89,7 @@ unfolding generated
 returns c =
     let g = c .before .before .before .before .before .before .before .before .args in
     let l = c .before .loop in
-    joined-done (g .p .n + 1) (rowAt (g .p) (g .key-lv0 .now) (g .key-lv1 .now) (g .masks .now) (g .noise .now)) (g .out .now) (l .r) (l .inv .2) (l .inv .3) (switchingRows (g .p)) (l .inv .0) (rw (rows-are (c .before .before)) at (c .loop-test .left)) (c .before .before .before .before .before .before .before .before .pre .1)
+    joined-done (g .p .n + 1) (generatedRow (g .p) (g .key-lv0 .now) (g .key-lv1 .now) (g .masks .now) (g .noise .now)) (g .out .now) (l .r) (l .inv .2) (l .inv .3) (switchingRows (g .p)) (l .inv .0) (rw (rows-are (c .before .before)) at (c .loop-test .left)) (c .before .before .before .before .before .before .before .before .pre .1)
 
 pub generate-spec : {M : Type 1} → statement M
 generate-spec =
