@@ -1,5 +1,5 @@
--- What the exports of reports tell, and the one that drops a former key's idle rows, by their contracts as `rattle` reads them from the code, is what the laws and computed cases of drift_report and key speak of: by
--- computation. So a contract that is changed together with its code is refused here.
+-- What the exports of reports and of the switching key's layout tell, by their contracts as `rattle` reads them from the code, is what the laws and computed cases of drift_report and key speak of: by
+-- computation. So a contract of these which is changed together with its code is refused here.
 -- Assumes nothing.
 use mathlib.Core.Path.{_≡_}
 use lib.ListN.{length}
@@ -9,12 +9,17 @@ use denote.Triple.Entry.{Args, Res}
 use denote.Triple.Clauses.{Lasts, atExit}
 use Rattle.params.specs.Refusal.{answer, ifDone}
 use Rattle.params.specs.Published.{numbers}
-use Rattle.packing.specs.Packed.{packed}
+use Rattle.packing.specs.Packed.{packed, packedWith}
+use Rattle.key.specs.Switching.{lookupNumber, placeOut}
+use Rattle.key.specs.Generation.{generated, generateNumber}
 use Rattle.key.specs.Former.{withoutIdle, dropNumber}
 use Rattle.drift_report.specs.Report.{emptyReport, reportOf}
 use Rattle.drift_report.specs.Merge.{merged}
 use Rattle.drift_report.specs.Words.{reportWords, reportFrom, emptyNumber, reportNumber, mergeNumber}
+use Rattle.egl_c.proofs.key_c.egl_key_gen_key_switching_key as egl-key-gen-key-switching-key
 use Rattle.egl_c.proofs.key_c.egl_key_drop_idle_rows as egl-key-drop-idle-rows
+use Rattle.egl_c.proofs.key_c.egl_key_switching_row_answer as egl-key-switching-row-answer
+use Rattle.egl_c.proofs.key_c.egl_key_row_index as egl-key-row-index
 use Rattle.egl_c.proofs.drift_report_c.egl_drift_report_empty as egl-drift-report-empty
 use Rattle.egl_c.proofs.drift_report_c.egl_drift_report_of as egl-drift-report-of
 use Rattle.egl_c.proofs.drift_report_c.egl_drift_report_merge as egl-drift-report-merge
@@ -34,6 +39,27 @@ pub egl-drift-report-merge-tells : (κs : Lfts (egl-drift-report-merge.ended .si
     → let first = now (a .0) in let second = now (a .1 .0) in let out = now (a .1 .1 .0) in let number = mergeNumber first second (length out) in
     (x ≡ packed (answer number)) × (v .1 .1 .0 ≡ ifDone number (reportWords (merged (reportFrom first) (reportFrom second))) out)
 egl-drift-report-merge-tells κs a x v h = h
+
+-- ---- the switching key
+
+pub egl-key-gen-key-switching-key-tells : (κs : Lfts (egl-key-gen-key-switching-key.ended .signature .lifetimes)) (a : Args (egl-key-gen-key-switching-key.ended .signature) κs)
+    (x : Res (egl-key-gen-key-switching-key.ended .signature) κs) (v : Lasts egl-key-gen-key-switching-key.ended κs a) → egl-key-gen-key-switching-key.Reads.Learnt κs a x (atExit egl-key-gen-key-switching-key.ended κs a v)
+    → let p = numbers (a .0) (a .1 .0) (a .1 .1 .0) (a .1 .1 .1 .0) (a .1 .1 .1 .1 .0) (a .1 .1 .1 .1 .1 .0) in let lent = a .1 .1 .1 .1 .1 .1 in
+    let key = now (lent .0) in let z = now (lent .1 .0) in let masks = now (lent .1 .1 .0) in let noise = now (lent .1 .1 .1 .0) in let out = now (lent .1 .1 .1 .1 .0) in
+    let number = generateNumber p key z (length masks) (length noise) (length out) in (x ≡ packed (answer number)) × (v .1 .1 .1 .1 .1 .1 .1 .1 .1 .1 .0 ≡ ifDone number (generated p key z masks noise) out)
+egl-key-gen-key-switching-key-tells κs a x v h = h
+
+pub egl-key-switching-row-answer-tells : (κs : Lfts (egl-key-switching-row-answer.ended .signature .lifetimes)) (a : Args (egl-key-switching-row-answer.ended .signature) κs)
+    (x : Res (egl-key-switching-row-answer.ended .signature) κs) (v : Lasts egl-key-switching-row-answer.ended κs a) → egl-key-switching-row-answer.Reads.Learnt κs a x (atExit egl-key-switching-row-answer.ended κs a v)
+    → let p = numbers (a .0) (a .1 .0) (a .1 .1 .0) (a .1 .1 .1 .0) (a .1 .1 .1 .1 .0) (a .1 .1 .1 .1 .1 .0) in let asked = a .1 .1 .1 .1 .1 .1 in
+    x ≡ packed (answer (lookupNumber p (asked .0) (asked .1 .0) (asked .1 .1 .0) (asked .1 .1 .1 .0)))
+egl-key-switching-row-answer-tells κs a x v h = h
+
+pub egl-key-row-index-tells : (κs : Lfts (egl-key-row-index.ended .signature .lifetimes)) (a : Args (egl-key-row-index.ended .signature) κs)
+    (x : Res (egl-key-row-index.ended .signature) κs) (v : Lasts egl-key-row-index.ended κs a) → egl-key-row-index.Reads.Learnt κs a x (atExit egl-key-row-index.ended κs a v)
+    → let p = numbers (a .0) (a .1 .0) (a .1 .1 .0) (a .1 .1 .1 .0) (a .1 .1 .1 .1 .0) (a .1 .1 .1 .1 .1 .0) in let asked = a .1 .1 .1 .1 .1 .1 in
+    let found = placeOut p (asked .0) (asked .1 .0) (asked .1 .1 .0) in x ≡ packedWith (found .answer) (found .value)
+egl-key-row-index-tells κs a x v h = h
 
 pub egl-key-drop-idle-rows-tells : (κs : Lfts (egl-key-drop-idle-rows.ended .signature .lifetimes)) (a : Args (egl-key-drop-idle-rows.ended .signature) κs)
     (x : Res (egl-key-drop-idle-rows.ended .signature) κs) (v : Lasts egl-key-drop-idle-rows.ended κs a) → egl-key-drop-idle-rows.Reads.Learnt κs a x (atExit egl-key-drop-idle-rows.ended κs a v)

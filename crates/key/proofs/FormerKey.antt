@@ -56,7 +56,7 @@ module _ (p : Params) (key z masks noise : List ℕ) (lent : Lent p (length key)
       let from = lent .range .t-from in
       made-length _ _ _ (first-below (base p) (p .t) (size p) r (base-from p) from h) (mod-lt (r / base p) from) (mod-lt r (base-from p))
 
-  -- row (i, j, k) of the former key, k from 1, is the row of its place today
+  -- row (i, j, k) of the former key is the row that was made for it
   row-was : (i j k : ℕ) → i < size p → j < p .t → k < base p → formerRow p (formerKey p key z masks noise) i j k ≡ formerMade p key z masks noise i j k
   unfolding formerRow formerKey
   row-was i j k hi hj hk =

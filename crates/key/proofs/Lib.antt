@@ -8,5 +8,6 @@ pub mod IdleRows
 pub mod FormerKey
 pub mod Errors
 pub mod Examples
+pub mod SwitchingExamples
 pub mod Determined
 pub mod Contracts

@@ -1,5 +1,5 @@
--- The layout of the switching key before 02, 2026-06, for those who hold such a key: BASE rows for each field, the first of them, k = 0, idle. It is read by `drop_idle_rows`
--- and by the law that today's key is the former one without its idle rows, and nowhere else.
+-- The layout of the switching key before 02, 2026-06, for those who hold such a key: BASE rows for each field, the first of them, k = 0, idle. Of the routines `drop_idle_rows` alone reads it; beside it the laws
+-- on former keys do, and computed cases whose numbers were found in that layout.
 use mathlib.Core.List.{List, [], _∷_}
 use Prim.Native.Nat.{ℕ, _+_, _*_}
 use Rattle.ring.specs.Lists.{part, joined}

@@ -1,5 +1,5 @@
 -- The switching key as it was generated before 02, 2026-06 (01, key; `gen_key_switching_key` of src/key.rs): the rows with k = 0 are zero and draw no mask and no noise.
--- `proofs/FormerKey.antt` holds today's key against it, word for word; nothing else reads it.
+-- No routine reads it: it is there for the law that today's key is this one without its idle rows (`idle-left-out`, in calls `generation-leaves-out` and `dropping-generates`).
 use mathlib.Core.Bool.{cond}
 use mathlib.Core.List.{List, [], _∷_, _++_}
 use Prim.Native.Nat.{ℕ, _+_, _*_, _-_, _/_, _%_}

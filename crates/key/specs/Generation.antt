@@ -11,7 +11,7 @@ use Rattle.tlwe.specs.Key.{binary}
 use Rattle.key.specs.Switching.{carried}
 use Rattle.ring.specs.Lists.{part, joined}
 
--- Row number r is row (i, j, k): its i. These three undo `rowIndex`.
+-- Row number r is row (i, j, k): its i. These three undo `rowIndex` (`outer-back`, `field-back`, `digit-back`, and the other way `number-back`, in proofs/Places.antt).
 unfoldable pub rowOuter : Params → ℕ → ℕ
 rowOuter p r = r / (base p - 1) / p .t
 

@@ -10,7 +10,7 @@ use Rattle.params.specs.Sizes.{size, base, switchingWords}
 use Rattle.refusals.specs.Table.{Check, is, below, refusalBy}
 use Rattle.key.specs.declared.RowPlace.{RowPlace}
 
--- The place of row (i, j, k) among the rows: for i below N, j below T, k from 1 to BASE - 1. There is no other definition of it.
+-- The place of row (i, j, k) among the rows: for i below N, j below T, k from 1 to BASE - 1.
 unfoldable pub rowIndex : Params → ℕ → ℕ → ℕ → ℕ
 rowIndex p i j k = (base p - 1) * (p .t * i + j) + (k - 1)
 

@@ -1,4 +1,4 @@
-// For those who hold a switching key in the layout before 02, 2026-06, with an idle row in front of each field's rows: the key without them.
+// For those who hold a switching key in the layout before 02, 2026-06, with one idle row in front of the rows of each field: the key without them.
 ghost use mathlib.Core.Path.{_≡_};
 ghost use Prim.Native.Nat.{_+_, _*_, _%_, _<_};
 ghost use lib.ListN.{length};
@@ -30,7 +30,7 @@ fn drop_number(p: Params, former: usize, out: usize) -> u32
     refusals::is(number, out, s.ksk, 2)
 }
 
-// The former place of row number r: its field's rows stood behind an idle row each.
+// The former place of row number r: the rows of each field stood behind one idle row.
 fn former_place(p: Params, r: usize) -> usize
     requires { ⌜ InRange p × (r < switchingRows p) ⌝ }
     ensures { λ x. ⌜ x ≡ formerIndex p (rowOuter p r) (rowField p r) (rowDigit p r) ⌝ }
