@@ -2,7 +2,6 @@
 //! independently of the library: what the external product, the blind rotation and the
 //! gates must give word for word.
 
-use crate::layout;
 use crate::sizes::Sizes;
 use std::cell::Cell;
 
@@ -149,7 +148,7 @@ pub fn chosen(p: &[u32; 6], src: &[u32]) -> Vec<usize> {
         for j in 0..s.t {
             let k = (a >> (32 - (j as u32 + 1) * p[4])) as usize % s.base;
             if k != 0 {
-                out.push(layout::place(&s, [i, j, k]));
+                out.push(s.place([i, j, k]));
             }
         }
     }

@@ -5,12 +5,7 @@ use crate::sizes::Sizes;
 use crate::source::Source;
 use oracle_api::{Cloud, Original};
 
-/// The place of row (i, j, k) among the rows, k from 1 on, by document 02's formula.
-pub fn place(s: &Sizes, [i, j, k]: [usize; 3]) -> usize {
-    (s.base - 1) * (s.t * i + j) + k - 1
-}
-
-/// Its place among the original's rows, by document 01's formula.
+/// The place of row (i, j, k) among the original's rows, by document 01's formula.
 pub fn former_place(s: &Sizes, [i, j, k]: [usize; 3]) -> usize {
     s.base * s.t * i + s.base * j + k
 }
@@ -26,7 +21,7 @@ pub fn without_idle_rows(p: &[u32; 6], former: &[u32]) -> Vec<u32> {
     let (s, words) = (Sizes::of(p), p[0] as usize + 1);
     let mut out = vec![0; s.switching()];
     for row in rows(&s) {
-        let (from, to) = (former_place(&s, row) * words, place(&s, row) * words);
+        let (from, to) = (former_place(&s, row) * words, s.place(row) * words);
         out[to..to + words].copy_from_slice(&former[from..from + words]);
     }
     out
@@ -38,7 +33,7 @@ pub fn with_idle_rows(p: &[u32; 6], key: &[u32]) -> Vec<u32> {
     let mut source = Source::new(crate::SEED, "idle rows");
     let mut out: Vec<u32> = (0..s.former_switching()).map(|_| source.next() as u32).collect();
     for row in rows(&s) {
-        let (from, to) = (place(&s, row) * words, former_place(&s, row) * words);
+        let (from, to) = (s.place(row) * words, former_place(&s, row) * words);
         out[to..to + words].copy_from_slice(&key[from..from + words]);
     }
     out

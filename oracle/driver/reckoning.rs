@@ -1,9 +1,8 @@
 //! Drift by document 01's section 'Drift', in whole numbers and step by step. It is written from that text alone: row errors, digits, products
 //! and remainders are worked out here, and nothing is brought modulo 2^32 before its end. Only the words that a rotation goes through come from
-//! `exact`, and a switching row's place from `layout`.
+//! `exact`, and a switching row's place from `sizes`.
 
 use crate::exact::{self, Pair};
-use crate::layout;
 use crate::sizes::Sizes;
 use std::cell::Cell;
 
@@ -145,7 +144,7 @@ impl<'a> Reckoner<'a> {
     /// Row (i, j, k)'s phase less k·z_i·2^(32-(j+1)·BASEBIT).
     fn switching_error(&self, i: usize, j: usize, k: usize) -> Whole {
         let s = &self.s;
-        let at = layout::place(s, [i, j, k]) * (s.n + 1);
+        let at = s.place([i, j, k]) * (s.n + 1);
         let carries = (k as Whole * self.z[i]) << (32 - (j as u32 + 1) * self.p[4]);
         centred(self.level0_phase(&self.switching[at..at + s.n + 1]) - carries)
     }

@@ -27,6 +27,10 @@ impl Sizes {
     pub fn switching(&self) -> usize {
         self.switching_rows() * (self.n + 1)
     }
+    /// The place of row (i, j, k) among these rows, k from 1 on, by document 02's formula.
+    pub fn place(&self, [i, j, k]: [usize; 3]) -> usize {
+        (self.base - 1) * (self.t * i + j) + k - 1
+    }
     /// Words of a switching key with idle rows.
     pub fn former_switching(&self) -> usize {
         self.base * self.t * self.ring * (self.n + 1)

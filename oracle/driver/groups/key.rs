@@ -103,7 +103,7 @@ pub fn routine(name: &str) -> &'static Routine {
 
 /// The place of a row among the rows.
 fn row_place(set: &Set, row: [usize; 3]) -> Arg {
-    Arg::Num(layout::place(&Sizes::of(&set.p), row) as u64)
+    Arg::Num(Sizes::of(&set.p).place(row) as u64)
 }
 
 /// The lookup of a row: the answer, and beside it the row's place, as two calls give them. Where only one of them knows the row, an answer that no call gives.
