@@ -31,6 +31,14 @@ declare! {
     fn egl_gates_nand(a: In, a_len: usize, b: In, b_len: usize, s: In, s_len: usize, k: In, k_len: usize, out: Out, out_len: usize);
     #[cfg(group_column)]
     fn egl_gate_column(kind: usize, count: usize, pairs: In, pairs_len: usize, s: In, s_len: usize, k: In, k_len: usize, out: Out, out_len: usize);
+    #[cfg(group_lookup)]
+    fn egl_table_testvec(modulus: u64, table: In, table_len: usize, a: Out, a_len: usize, b: Out, b_len: usize);
+    #[cfg(group_lookup)]
+    fn egl_trgsw_blind_rotate_with_testvec(src: In, src_len: usize, va: In, va_len: usize, vb: In, vb_len: usize, key: In, key_len: usize, x: Out, x_len: usize, y: Out, y_len: usize);
+    #[cfg(group_lookup)]
+    fn egl_trlwe_sample_extract_index(a: In, a_len: usize, b: In, b_len: usize, k: usize, out: Out, out_len: usize);
+    #[cfg(group_lookup)]
+    fn egl_lookup(modulus: u64, table: In, table_len: usize, c: In, c_len: usize, s: In, s_len: usize, k: In, k_len: usize, out: Out, out_len: usize);
     #[cfg(any(group_work, group_drift))]
     fn egl_circuit_run_encrypted(s: In, s_len: usize, k: In, k_len: usize, c: Bytes, c_len: usize, ins: In, ins_len: usize, wires: Out, wires_len: usize, out: Out, out_len: usize);
     #[cfg(group_drift)]
@@ -113,6 +121,24 @@ pub fn nand(p: &[u32; 6], a: &[u32], b: &[u32], s: &[u32], k: &[u32], out: &mut 
 pub fn column_of_nands(p: &[u32; 6], pairs: &[u32], s: &[u32], k: &[u32], out: &mut [u32]) {
     let count = out.len() / (p[0] as usize + 1);
     done!(p, egl_gate_column(5, count, pairs.as_ptr(), pairs.len(), s.as_ptr(), s.len(), k.as_ptr(), k.len(), out.as_mut_ptr(), out.len()))
+}
+
+#[cfg(group_lookup)]
+pub fn lookup(p: &[u32; 6], table: &[u32], c: &[u32], s: &[u32], k: &[u32], out: &mut [u32]) {
+    let modulus = table.len() as u64;
+    done!(p, egl_lookup(modulus, table.as_ptr(), table.len(), c.as_ptr(), c.len(), s.as_ptr(), s.len(), k.as_ptr(), k.len(), out.as_mut_ptr(), out.len()))
+}
+
+/// The same by the library's routines for each part of it: the test vector, its rotation, the extraction and the switching.
+#[cfg(group_lookup)]
+pub fn lookup_in_parts(p: &[u32; 6], table: &[u32], c: &[u32], s: &[u32], k: &[u32], out: &mut [u32]) {
+    let length = 1 << p[1];
+    let [mut va, mut vb, mut x, mut y] = [0, 1, 2, 3].map(|word| vec![word; length]);
+    let mut long = vec![4; length + 1];
+    done!(p, egl_table_testvec(table.len() as u64, table.as_ptr(), table.len(), va.as_mut_ptr(), length, vb.as_mut_ptr(), length));
+    done!(p, egl_trgsw_blind_rotate_with_testvec(c.as_ptr(), c.len(), va.as_ptr(), length, vb.as_ptr(), length, k.as_ptr(), k.len(), x.as_mut_ptr(), length, y.as_mut_ptr(), length));
+    done!(p, egl_trlwe_sample_extract_index(x.as_ptr(), length, y.as_ptr(), length, 0, long.as_mut_ptr(), length + 1));
+    switch(p, &long, s, out)
 }
 
 /// The words that a run is lent: the switching key, the bootstrapping key and the inputs' ciphertexts, then the wires' and the outputs' to be written.

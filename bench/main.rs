@@ -5,6 +5,8 @@ mod bristol;
 #[cfg(group_column)]
 mod column;
 mod library;
+#[cfg(group_lookup)]
+mod lookup;
 mod measure;
 mod plain;
 #[cfg(group_report)]
@@ -223,6 +225,10 @@ fn main() {
     #[cfg(group_column)]
     if wanted("column") {
         column::run();
+    }
+    #[cfg(group_lookup)]
+    if wanted("lookup") {
+        lookup::run();
     }
     #[cfg(group_circuit)]
     if wanted("circuit") {

@@ -17,7 +17,7 @@
  *   2  a buffer has not exactly its stated length; for egl_bristol_import and egl_bristol_export: out is shorter than the result
  *   3  rotation amount above 2N, extraction index N or more, or a key row's index outside its range
  *   4  a secret key word is neither 0 nor 1
- *   5  message modulus not 2, 4, 8, 16, 32 or 64
+ *   5  message modulus not 2, 4, 8, 16, 32 or 64, or, of a table, twice the modulus does not divide N
  *   6  circuit: wrong mark      7  circuit: version not 1      8  circuit: length or count
  *   9  circuit: a gate; column: a kind that is not 3 to 12
  *  10  circuit: an output
@@ -41,7 +41,7 @@ extern "C" {
 
 /* The interface that this header describes. One more with each release in which a function is added, taken away or changed: where egl_version() gives another number, header and
  * archive do not belong together. */
-#define EGL_VERSION 6
+#define EGL_VERSION 7
 
 /* The interface that the archive has. */
 uint32_t egl_version(void);
@@ -454,6 +454,44 @@ egl_answer egl_drift_report_of(const uint32_t *drifts, size_t drifts_len, uint32
  * second's largest is greater in absolute value, and its wire is then the first's total plus the second's wire, modulo 2^32. So words whose total is not too large stay
  * as they are with the report of no wire as second, and with it as first too, but that a largest and a wire beside a total of 0 become 0. */
 egl_answer egl_drift_report_merge(const uint32_t *first, size_t first_len, const uint32_t *second, size_t second_len, uint32_t *out, size_t out_len);
+
+/* ---- lookup tables on small messages ----
+ *
+ * A message of modulus M (2, 4, 8, 16, 32 or 64) has the word (m mod M) * 2^31 / M: the messages share half a turn (see egl_tlwe_encrypt_message_lv0). A table of modulus M is
+ * M words f(0) to f(M - 1), and a lookup turns a ciphertext of the message m into one of the word f(m), whatever words these are. It takes one blind rotation, as long as
+ * egl_gates_nand. Twice the modulus has to divide N, so M is at most N / 2 (refusal 5).
+ *
+ * What f(m) is for:
+ *   messages of modulus R    f(m) = (r mod R) * 2^31 / R; the result decrypts by egl_tlwe_decrypt_message_lv0, and a table of modulus R takes it: tables chain
+ *   bits for gates           f(m) = 0x20000000 for true, 0xE0000000 for false; the result is a gate's operand
+ *
+ * Messages are added beforehand, by egl_tlwe_add_lv0, egl_tlwe_sub_lv0 and their multiples, all operands being of the table's modulus; a plain message is added to the last word alone. The
+ * sum has to stay from 0 to M - 1, which is the caller's to see to: half a turn is M, and past it the words turn their sign, so that m + M yields -f(m).
+ *
+ * Margins. A message's own drift is its phase less its word; a sum's is the same sum of its operands' drifts. With what rounding adds it is the brought-in drift, and as long as that is
+ * strictly inside 2^31 / (2M), f(m) comes out, plus the output's drift. A result of modulus R is right where the output's drift is strictly inside 2^31 / (2R): 2^29 for R = 2, which is
+ * a gate's margin for a bit. Rounding alone spreads by about sqrt(n / 6) * 2^30 / N, so that no set serves every M: egl_lookup_drift tells what is left. */
+
+/* The test vector of a table: a becomes zero; coefficient i of b becomes f at (i * M + N/2) div N, and where that is M f(0) negated (each bit's complement plus one). table has M words
+ * whatever M is, a and b N. Refusals 1, 2, 5. */
+egl_answer egl_table_testvec(EGL_PARAMS, uint64_t modulus, const uint32_t *table, size_t table_len, uint32_t *a, size_t a_len, uint32_t *b, size_t b_len);
+
+/* What egl_trgsw_blind_rotate does, of the caller's own test vector (va, vb), N words each, which may hold anything. src is a level-0 ciphertext, key the bootstrapping key. Refusals 1, 2. */
+egl_answer egl_trgsw_blind_rotate_with_testvec(EGL_PARAMS, const uint32_t *src, size_t src_len, const uint32_t *va, size_t va_len, const uint32_t *vb, size_t vb_len, const uint32_t *key, size_t key_len, uint32_t *a, size_t a_len, uint32_t *b, size_t b_len);
+
+/* The lookup: the table's test vector rotated by the ciphertext c of a message, extracted at 0 and switched back to level 0. table has M words, c and out n + 1; ksk is the switching
+ * key, bsk the bootstrapping key. Refusals 1, 2, 5. */
+egl_answer egl_lookup(EGL_PARAMS, uint64_t modulus, const uint32_t *table, size_t table_len, const uint32_t *c, size_t c_len, const uint32_t *ksk, size_t ksk_len, const uint32_t *bsk, size_t bsk_len, uint32_t *out, size_t out_len);
+
+/* What egl_lookup does, and its drifts, for whoever holds both secret keys (see drift above): c is meant to carry the message value mod M. drifts, EGL_LOOKUP_DRIFTS words to be read as
+ * signed (int32_t), gets the brought-in drift and then the output's. The value is 1 where the first is strictly inside 2^31 / (2M) and the second strictly inside 2^31 / (2 * results),
+ * else 0. results is the modulus by which the result is judged: that of its messages, 2 for bits.
+ *
+ * Where the value is 1, the phase of out is f(value mod M) plus the output's drift modulo 2^32, and where f(value mod M) is the word of a message of modulus results, out decrypts to that
+ * message: whatever the key material and the ciphertext hold. The output's drift is then the own drift of the message in a next table of modulus results, and of a bit for gates it is what
+ * egl_fresh_drift gives. Refusals 1, 2, 4 for key and z, 5 also where results is not 2, 4, 8, 16, 32 or 64. */
+#define EGL_LOOKUP_DRIFTS 2
+egl_answer egl_lookup_drift(EGL_PARAMS, uint64_t modulus, const uint32_t *table, size_t table_len, uint64_t results, uint64_t value, const uint32_t *ksk, size_t ksk_len, const uint32_t *bsk, size_t bsk_len, const uint32_t *key, size_t key_len, const uint32_t *z, size_t z_len, const uint32_t *c, size_t c_len, uint32_t *out, size_t out_len, uint32_t *drifts, size_t drifts_len);
 
 #ifdef __cplusplus
 }

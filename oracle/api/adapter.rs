@@ -116,6 +116,10 @@ impl Cloud for Keys {
         pair(&trgsw::blind_rotate(&tlwe::TLWELv0 { p: array(src) }, &self.0))
     }
 
+    fn blind_rotate_with_testvec(&self, src: &[u32], a: &[u32], b: &[u32]) -> Pair {
+        pair(&trgsw::blind_rotate_with_testvec(&tlwe::TLWELv0 { p: array(src) }, &trlwe_of(a, b), &self.0))
+    }
+
     fn identity_key_switching(&self, src: &[u32]) -> Vec<u32> {
         trgsw::identity_key_switching(&lv1(src), &self.0.key_switching_key).p.to_vec()
     }

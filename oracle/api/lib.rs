@@ -7,6 +7,7 @@ pub type Pair = (Vec<u32>, Vec<u32>);
 /// A cloud key made from lent coefficients, and what the original does with it.
 pub trait Cloud: Sync {
     fn blind_rotate(&self, src: &[u32]) -> Pair;
+    fn blind_rotate_with_testvec(&self, src: &[u32], a: &[u32], b: &[u32]) -> Pair;
     fn identity_key_switching(&self, src: &[u32]) -> Vec<u32>;
     /// A gate by the name it has in the original; `c` is read by the mux gates alone.
     fn gate(&self, name: &str, a: &[u32], b: &[u32], c: &[u32]) -> Vec<u32>;

@@ -18,11 +18,12 @@ use std::sync::atomic::{AtomicUsize, Ordering};
 use std::sync::Mutex;
 
 /// The groups of comparisons, in port order.
-const GROUPS: [&str; 15] =
-    ["params", "utils", "product", "tlwe", "trlwe", "key", "rotation", "trgsw", "gates", "column", "circuit", "bristol", "encrypted", "drift", "drift_report"];
+const GROUPS: [&str; 16] =
+    ["params", "utils", "product", "tlwe", "trlwe", "key", "rotation", "trgsw", "gates", "column", "circuit", "bristol", "encrypted", "drift", "drift_report", "tables"];
 
 /// The files in ffi/ with the functions that a group needs: columns and encrypted runs are compared with single gates, drift runs with encrypted ones;
-/// imported and exported circuits are run on plain bits, a circuit's work is held against the rotations of its runs, and the drifts of drift runs are reported.
+/// imported and exported circuits are run on plain bits, a circuit's work is held against the rotations of its runs, the drifts of drift runs are reported, and
+/// what a table gives is decrypted.
 fn declarations(group: &str) -> Vec<&str> {
     match group {
         "bristol" => vec!["circuit", "bristol"],
@@ -30,6 +31,7 @@ fn declarations(group: &str) -> Vec<&str> {
         "encrypted" => vec!["gates", "circuit", "encrypted"],
         "drift" => vec!["gates", "circuit", "encrypted", "drift"],
         "drift_report" => vec!["drift", "drift_report"],
+        "tables" => vec!["tlwe", "tables"],
         _ => vec![group],
     }
 }
@@ -82,10 +84,11 @@ fn sets(o: &Options) -> Vec<Set> {
     let mut out = Vec::new();
     for line in text.lines().filter(|l| !l.starts_with('#') && !l.trim().is_empty()) {
         let words: Vec<&str> = line.split_whitespace().collect();
-        let p: Vec<u32> = words[1..].iter().map(|w| w.parse().unwrap_or_else(|_| fail(line))).collect();
-        let name = words[0].to_string();
+        let (six, groups) = words[1..].split_at_checked(6).unwrap_or_else(|| fail(line));
+        let p: Vec<u32> = six.iter().map(|w| w.parse().unwrap_or_else(|_| fail(line))).collect();
+        let (name, groups) = (words[0].to_string(), groups.iter().map(|g| g.to_string()).collect());
         if o.sets.as_ref().is_none_or(|s| s.contains(&name)) {
-            out.push(Set { name, p: p.try_into().unwrap_or_else(|_| fail(line)) });
+            out.push(Set { name, p: p.try_into().unwrap_or_else(|_| fail(line)), groups });
         }
     }
     out
@@ -219,7 +222,7 @@ fn list(sets: &[Set], given: bool) -> String {
     let mut text = String::from("pub fn sets() -> Vec<crate::case::Set> {\n    vec![\n");
     for s in sets {
         let original = if given { format!("Some(&set_{}::adapter::SET)", s.name) } else { "None".into() };
-        text.push_str(&format!("        crate::case::Set {{ name: {:?}, p: {:?}, original: {original} }},\n", s.name, s.p));
+        text.push_str(&format!("        crate::case::Set {{ name: {:?}, p: {:?}, original: {original}, groups: &{:?} }},\n", s.name, s.p, s.groups));
     }
     let offset = if given { "offsets::offset(bgbit, l)" } else { "None" };
     text + &format!("    ]\n}}\npub fn original_offset(bgbit: u32, l: u32) -> Option<u32> {{\n    {offset}\n}}\n")
@@ -233,7 +236,8 @@ fn main() {
         exit(!interface::hold(&o.root, &archive) as i32)
     }
     let groups = groups(&o, &archive);
-    let sets = sets(&o);
+    let mut sets = sets(&o);
+    sets.retain(|s| s.groups.is_empty() || s.groups.iter().any(|g| groups.contains(g)));
     let given = o.original.join("src/lib.rs").exists();
     let mut text = shared(&o, &out);
     if given {

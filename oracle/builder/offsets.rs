@@ -35,7 +35,7 @@ pub fn write(original: &Path, out: &Path) -> Result<String, String> {
     let mut all = String::new();
     for (bgbit, l) in pairs() {
         let name = module(bgbit, l);
-        let set = Set { name: name.clone(), p: [1, 1, bgbit, l, 1, 1] };
+        let set = Set { name: name.clone(), p: [1, 1, bgbit, l, 1, 1], groups: Vec::new() };
         let own = format!("pub mod params;\nuse params::{{Torus, TORUS_SIZE}};\n\n{function}");
         let constants = constants(&params, &set)?;
         save(format!("{name}.rs"), &own)?;

@@ -8,6 +8,8 @@ pub struct Set {
     pub name: String,
     /// n, NBIT, BGBIT, L, BASEBIT, T.
     pub p: [u32; 6],
+    /// The groups that run at it; all of them where none is named.
+    pub groups: Vec<String>,
 }
 
 /// The modules that are taken as they are.

@@ -8,6 +8,8 @@ pub struct Set {
     pub name: &'static str,
     pub p: [u32; 6],
     pub original: Option<&'static dyn Original>,
+    /// The groups that run at it; all of them where none is named.
+    pub groups: &'static [&'static str],
 }
 
 #[derive(Clone)]
@@ -45,6 +47,9 @@ pub enum Slot {
     Number(u32),
     Turn,
     Modulus,
+    /// A modulus of messages whose double has to divide N, and the table of so many words.
+    TableModulus,
+    Table,
     /// A circuit's bytes.
     Circuit,
     /// Ciphertexts at level 0, as many as the circuit tells.

@@ -4,12 +4,20 @@ use crate::case::{Arg, Kind, Routine, Slot};
 use crate::circuits::{self, Circuit};
 use crate::sizes::{in_range, Sizes};
 use crate::source::Source;
+use crate::table::carries;
 
 /// The lengths of columns.
 pub const PAIRS: [usize; 4] = [0, 1, 2, 7];
 
 /// Kinds that no column runs; the low bits of the last few are those of one that does.
 pub const OTHER_KINDS: [u64; 9] = [0, 1, 2, 13, 14, 255, 256 + 3, (1 << 32) + 3, u64::MAX];
+
+/// The moduli that messages may have.
+pub const MODULI: [u64; 6] = [2, 4, 8, 16, 32, 64];
+
+/// Others: about those, between them, and large ones; two of these have the low bits of one that messages may have.
+pub const OTHER_MODULI: [u64; 18] =
+    [0, 1, 3, 5, 6, 12, 24, 48, 63, 65, 96, 128, 1 << 16, 1 << 31, (1 << 32) + 2, (1 << 32) + 4, 1 << 63, u64::MAX];
 
 fn filled(source: &mut Source, kind: Kind, len: usize) -> Arg {
     match kind {
@@ -28,6 +36,8 @@ pub fn good(source: &mut Source, r: &Routine, p: &[u32; 6]) -> Vec<Arg> {
     let mut circuit = Circuit { inputs: 0, gates: Vec::new(), outputs: Vec::new() };
     // and the column's pairs
     let mut pairs = 0;
+    // and the table's modulus
+    let mut modulus = 0;
     for slot in r.slots {
         out.push(match slot {
             Slot::In(kind, len) => filled(source, *kind, len(&s)),
@@ -49,6 +59,13 @@ pub fn good(source: &mut Source, r: &Routine, p: &[u32; 6]) -> Vec<Arg> {
             Slot::Number(_) => Arg::Num(if source.below(2) == 0 { source.below(200) } else { source.next() }),
             Slot::Turn => Arg::Turn(source.double()),
             Slot::Modulus => Arg::Num(2 << source.below(6)),
+            Slot::TableModulus => {
+                // N 2 has room for no table: there the call is refused
+                let fit: Vec<u64> = MODULI.into_iter().filter(|m| carries(s.ring, *m)).collect();
+                modulus = if fit.is_empty() { source.of(&MODULI) } else { source.of(&fit) };
+                Arg::Num(modulus)
+            }
+            Slot::Table => Arg::Words(source.words(modulus as usize)),
             Slot::Circuit => {
                 let bytes = small_circuit(source, circuits::KINDS);
                 circuit = circuits::read(&bytes).ok().expect("a valid circuit");
@@ -151,10 +168,18 @@ pub fn faulty(source: &mut Source, r: &Routine) -> ([u32; 6], Vec<Arg>) {
                 *x = source.of(&[0, 0, most + 1, 1 << 32, (1 << 32) + 1, u64::MAX]);
             }
             (Slot::Modulus, Arg::Num(m)) => *m = source.of(&[0, 1, 3, 6, 63, 65, 128, 1 << 32, (1 << 32) + 2, 1 << 63, u64::MAX]),
+            (Slot::TableModulus, Arg::Num(m)) => {
+                *m = if source.below(2) == 0 { source.of(&MODULI) } else { source.of(&OTHER_MODULI) };
+                // mostly with the table that it asks for, where a table can be so long
+                let (m, table) = (*m, r.slots.iter().position(|s| matches!(s, Slot::Table)));
+                if let (Some(Arg::Words(table)), true) = (table.map(|at| &mut args[at]), m <= 1 << 16 && source.below(3) > 0) {
+                    table.resize(m as usize, 1);
+                }
+            }
             (Slot::Circuit, Arg::Bytes(b)) => circuits::damage(source, b),
             (Slot::PairKind, Arg::Num(kind)) => *kind = source.of(&OTHER_KINDS),
             (Slot::Pairs, Arg::Num(pairs)) => *pairs = source.of(&other_counts(p[0] as u64 + 1, *pairs)),
-            (Slot::In(..) | Slot::Out(..) | Slot::Key(_) | Slot::EachPair(_) | Slot::EachPairOut(_), a) => resized(source, &p, a),
+            (Slot::In(..) | Slot::Out(..) | Slot::Key(_) | Slot::Table | Slot::EachPair(_) | Slot::EachPairOut(_), a) => resized(source, &p, a),
             (Slot::Ciphers(_) | Slot::CiphersOut(_) | Slot::BytesOf(_) | Slot::WordsOut(_), a) => resized(source, &p, a),
             _ => {}
         }

@@ -121,12 +121,19 @@ pub fn step(p: &[u32; 6], key: &[u32], i: usize, mask: u32, a: &[u32], b: &[u32]
     cmux(p, (a, b), (&turned.0, &turned.1), &key[i * len..(i + 1) * len])
 }
 
+/// The rotation of the gates' test vector.
 pub fn blind_rotate(p: &[u32; 6], src: &[u32], key: &[u32]) -> Pair {
+    let ring = Sizes::of(p).ring;
+    blind_rotate_of(p, src, (&vec![0; ring], &vec![1 << 29; ring]), key)
+}
+
+/// The rotation of any test vector.
+pub fn blind_rotate_of(p: &[u32; 6], src: &[u32], vector: (&[u32], &[u32]), key: &[u32]) -> Pair {
     ROTATIONS.set(ROTATIONS.get() + 1);
-    let s = Sizes::of(p);
-    let k = body_amount(p, src[s.n]) as usize;
-    let mut at = (rotated(&vec![0; s.ring], k), rotated(&vec![1 << 29; s.ring], k));
-    for i in 0..s.n {
+    let n = Sizes::of(p).n;
+    let k = body_amount(p, src[n]) as usize;
+    let mut at = (rotated(vector.0, k), rotated(vector.1, k));
+    for i in 0..n {
         at = step(p, key, i, src[i], &at.0, &at.1);
     }
     at

@@ -85,6 +85,11 @@ impl Keys {
         tlwe(source, &self.key_lv0, if bit { 1 << 29 } else { 7 << 29 }, deviation)
     }
 
+    /// A ciphertext of any plain word, as a message's is.
+    pub fn encrypt_word(&self, source: &mut Source, plain: u32, deviation: f64) -> Vec<u32> {
+        tlwe(source, &self.key_lv0, plain, deviation)
+    }
+
     pub fn decrypt(&self, c: &[u32]) -> bool {
         let n = self.key_lv0.len();
         c[n].wrapping_sub(inner(&c[..n], &self.key_lv0)) as i32 >= 0

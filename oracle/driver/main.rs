@@ -24,6 +24,8 @@ mod junk;
 mod layout;
 #[cfg(not(bridge))]
 mod lent;
+#[cfg(group_tables)]
+mod lookup_tables;
 mod reckoned_run;
 mod reckoning;
 mod sizes;
@@ -81,7 +83,10 @@ fn jobs<'a>(groups: &'a [Group], sets: &'a [Set]) -> Vec<Job<'a>> {
     for group in groups {
         match group.run {
             Run::Once(_) => jobs.push(Job { group, set: None }),
-            Run::EachSet(_) => jobs.extend(sets.iter().map(|s| Job { group, set: Some(s) })),
+            Run::EachSet(_) => {
+                let own = sets.iter().filter(|s| s.groups.is_empty() || s.groups.contains(&group.name));
+                jobs.extend(own.map(|s| Job { group, set: Some(s) }))
+            }
         }
     }
     jobs

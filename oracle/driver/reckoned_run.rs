@@ -4,6 +4,7 @@
 use crate::circuits::{plain_wires, Circuit};
 use crate::exact::{self, SUMS};
 use crate::exact_run::{self, cipher, NAMES};
+use crate::exact_words::testvec;
 use crate::reckoning::{carried, centred, inside, word, Reckoner, Whole, EIGHTH};
 
 pub struct Gate {
@@ -49,7 +50,8 @@ pub fn gate(r: &Reckoner, kind: usize, operands: [&[u32]; 3], drifts: [Whole; 3]
     let (cipher, sample) = exact_run::gate(&r.p, r.switching, r.bootstrapping, kind, operands);
     let (mut brought, mut extracted) = (Vec::new(), 0);
     for (name, a, b) in rotations(kind) {
-        let rotation = r.rotation(&exact::sum(name, operands[a], operands[b]), multiples(name, drifts[a], drifts[b]));
+        let sum = exact::sum(name, operands[a], operands[b]);
+        let rotation = r.rotation(&testvec(&r.p), &sum, multiples(name, drifts[a], drifts[b]));
         brought.push(rotation.brought);
         extracted += rotation.drift;
     }

@@ -125,6 +125,12 @@ impl<'a> Reckoner<'a> {
         centred(self.level0_phase(c) - carried(bit))
     }
 
+    /// Phase less the message's word, which is (value mod M)·2^31/M.
+    pub fn of_message(&self, c: &[u32], value: u64, modulus: u64) -> Whole {
+        let message = Whole::from(value).rem_euclid(Whole::from(modulus));
+        centred(self.level0_phase(c) - message * (TURN / 2) / Whole::from(modulus))
+    }
+
     /// A row's phase less -m·g_i·z, or less m·g_i in the lower half of a bit's rows.
     fn bootstrapping_error(&self, row: usize) -> Poly {
         let (n, l) = (self.s.ring, self.s.l);
@@ -208,29 +214,30 @@ impl<'a> Reckoner<'a> {
         plus(&kept, &self.digits_times_errors(&difference, i))
     }
 
-    /// Rotates a sum whose operands bring in `operands`, and extracts at 0.
-    pub fn rotation(&self, sum: &[u32], operands: Whole) -> Rotation {
+    /// Turns a test vector by a sum whose operands bring in `operands`, and extracts at 0.
+    pub fn rotation(&self, vector: &Pair, sum: &[u32], operands: Whole) -> Rotation {
         let n = self.s.ring;
         let start = exact::body_amount(&self.p, sum[self.s.n]) as usize;
-        let mut at = (exact::rotated(&vec![0; n], start), exact::rotated(&vec![1 << 29; n], start));
+        let mut at = (exact::rotated(&vector.0, start), exact::rotated(&vector.1, start));
+        let carried = self.phase(&whole(&vector.0), &whole(&vector.1));
         let (mut drift, mut turns) = (self.complements(start), start);
-        self.look(&at, turns, &drift);
+        self.look(&carried, &at, turns, &drift);
         for i in 0..self.s.n {
             let k = self.steps(sum[i]) as usize % (2 * n);
             drift = self.stepped(&drift, &at, i, k);
             at = exact::step(&self.p, self.bootstrapping, i, sum[i], &at.0, &at.1);
             turns += k * self.key[i] as usize;
-            self.look(&at, turns, &drift);
+            self.look(&carried, &at, turns, &drift);
         }
         let ones: Whole = self.z[1..].iter().sum();
         let brought = centred(operands + self.remainders(sum));
         Rotation { brought, sample: exact::extract(&at.0, &at.1, 0), drift: drift[0] + ones }
     }
 
-    /// Counts the accumulator, and whether its phase is the test vector turned so far plus the drift.
-    fn look(&self, at: &Pair, turns: usize, drift: &[Whole]) {
+    /// Counts the accumulator, and whether its phase is the test vector's, turned so far, plus the drift.
+    fn look(&self, carried: &[Whole], at: &Pair, turns: usize, drift: &[Whole]) {
         let phase = self.phase(&whole(&at.0), &whole(&at.1));
-        let told = plus(&turned(&vec![EIGHTH; self.s.ring], turns), drift);
+        let told = plus(&turned(carried, turns), drift);
         let same = phase.iter().zip(&told).all(|(x, y)| centred(x - y) == 0);
         self.accumulators.set(self.accumulators.get() + 1);
         self.exceptions.set(self.exceptions.get() + u64::from(!same));

@@ -15,6 +15,10 @@ extern "C" {
     fn egl_version() -> u32;
     fn egl_params_check(n: u32, nbit: u32, bgbit: u32, l: u32, basebit: u32, t: u32) -> u64;
 
+    fn egl_tlwe_add_lv0(n: u32, nbit: u32, bgbit: u32, l: u32, basebit: u32, t: u32, a: *const u32, a_len: usize, b: *const u32, b_len: usize, out: *mut u32, out_len: usize) -> u64;
+    fn egl_tlwe_sub_lv0(n: u32, nbit: u32, bgbit: u32, l: u32, basebit: u32, t: u32, a: *const u32, a_len: usize, b: *const u32, b_len: usize, out: *mut u32, out_len: usize) -> u64;
+    fn egl_tlwe_add_mul_lv0(n: u32, nbit: u32, bgbit: u32, l: u32, basebit: u32, t: u32, a: *const u32, a_len: usize, b: *const u32, b_len: usize, multiplier: u32, out: *mut u32, out_len: usize) -> u64;
+    fn egl_tlwe_sub_mul_lv0(n: u32, nbit: u32, bgbit: u32, l: u32, basebit: u32, t: u32, a: *const u32, a_len: usize, b: *const u32, b_len: usize, multiplier: u32, out: *mut u32, out_len: usize) -> u64;
     fn egl_tlwe_encrypt_bit_lv0(n: u32, nbit: u32, bgbit: u32, l: u32, basebit: u32, t: u32, bit: u32, masks: *const u32, masks_len: usize, noise: u32, key: *const u32, key_len: usize, out: *mut u32, out_len: usize) -> u64;
     fn egl_tlwe_encrypt_turn_lv0(n: u32, nbit: u32, bgbit: u32, l: u32, basebit: u32, t: u32, turn: f64, masks: *const u32, masks_len: usize, noise: u32, key: *const u32, key_len: usize, out: *mut u32, out_len: usize) -> u64;
     fn egl_tlwe_encrypt_message_lv0(n: u32, nbit: u32, bgbit: u32, l: u32, basebit: u32, t: u32, value: u64, modulus: u64, masks: *const u32, masks_len: usize, noise: u32, key: *const u32, key_len: usize, out: *mut u32, out_len: usize) -> u64;
@@ -62,6 +66,10 @@ extern "C" {
     fn egl_drift_report_empty(out: *mut u32, out_len: usize) -> u64;
     fn egl_drift_report_of(drifts: *const u32, drifts_len: usize, out: *mut u32, out_len: usize) -> u64;
     fn egl_drift_report_merge(first: *const u32, first_len: usize, second: *const u32, second_len: usize, out: *mut u32, out_len: usize) -> u64;
+
+    fn egl_table_testvec(n: u32, nbit: u32, bgbit: u32, l: u32, basebit: u32, t: u32, modulus: u64, table: *const u32, table_len: usize, a: *mut u32, a_len: usize, b: *mut u32, b_len: usize) -> u64;
+    fn egl_lookup(n: u32, nbit: u32, bgbit: u32, l: u32, basebit: u32, t: u32, modulus: u64, table: *const u32, table_len: usize, c: *const u32, c_len: usize, ksk: *const u32, ksk_len: usize, bsk: *const u32, bsk_len: usize, out: *mut u32, out_len: usize) -> u64;
+    fn egl_lookup_drift(n: u32, nbit: u32, bgbit: u32, l: u32, basebit: u32, t: u32, modulus: u64, table: *const u32, table_len: usize, results: u64, value: u64, ksk: *const u32, ksk_len: usize, bsk: *const u32, bsk_len: usize, key: *const u32, key_len: usize, z: *const u32, z_len: usize, c: *const u32, c_len: usize, out: *mut u32, out_len: usize, drifts: *mut u32, drifts_len: usize) -> u64;
 }
 
 /// The two keys of a gate, as they cross.
@@ -112,6 +120,10 @@ macro_rules! call {
 safe! {
     params_check = egl_params_check();
 
+    add = egl_tlwe_add_lv0(a: words, b: words, out: written);
+    sub = egl_tlwe_sub_lv0(a: words, b: words, out: written);
+    add_mul = egl_tlwe_add_mul_lv0(a: words, b: words, multiplier: u32, out: written);
+    sub_mul = egl_tlwe_sub_mul_lv0(a: words, b: words, multiplier: u32, out: written);
     encrypt_bit = egl_tlwe_encrypt_bit_lv0(value: bit, masks: words, noise: u32, key: words, out: written);
     encrypt_turn = egl_tlwe_encrypt_turn_lv0(turn: f64, masks: words, noise: u32, key: words, out: written);
     encrypt_message = egl_tlwe_encrypt_message_lv0(value: u64, modulus: u64, masks: words, noise: u32, key: words, out: written);
@@ -148,6 +160,10 @@ safe! {
     drift_run = egl_drift_run(key: cloud, level0: words, level1: words, circuit: bytes, ins: words, plain: bytes, wires: written, out: written, drifts: written);
     drift_gate = egl_drift_gate(key: cloud, level0: words, level1: words, circuit: bytes, gate: usize, wires: written, drifts: written);
     fresh_drift = egl_fresh_drift(key: words, ciphertext: words, plain: u8);
+
+    table_testvec = egl_table_testvec(modulus: u64, table: words, a: written, b: written);
+    lookup = egl_lookup(modulus: u64, table: words, ciphertext: words, key: cloud, out: written);
+    lookup_drift = egl_lookup_drift(modulus: u64, table: words, results: u64, value: u64, key: cloud, level0: words, level1: words, ciphertext: words, out: written, drifts: written);
 }
 
 /// The version of the archive's interface.

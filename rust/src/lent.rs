@@ -1,4 +1,4 @@
-//! Encryption, decryption and generation of keys with everything lent: masks, noise, keys and the place of the result. Nothing is
+//! Encryption, decryption, sums and generation of keys with everything lent: masks, noise, keys and the place of the result. Nothing is
 //! allocated and nothing is drawn. [`Params::lengths`] tells how long each slice has to be.
 //!
 //! Masks have to be uniform and secret keys uniform bits, each drawn once; the noise hides the message. That is the caller's part:
@@ -46,6 +46,34 @@ pub fn decrypt_message(params: Params, modulus: u64, ciphertext: &[u32], key: &[
 /// 2^-32 of a turn. Refusals: 1, 2, 4.
 pub fn fresh_drift(params: Params, ciphertext: &[u32], bit: bool, key: &[u32]) -> Result<i32, Refusal> {
     Refusal::of_answer(ffi::fresh_drift(params, key, ciphertext, u8::from(bit))).map(|drift| drift as i32)
+}
+
+/// a + b, word by word modulo 2^32: the sum of two messages of one modulus, if it is below that (see [`CloudKey::evaluate_sum`](crate::CloudKey::evaluate_sum)). Each has
+/// n + 1 words. Refusals: 1, 2.
+pub fn add(params: Params, a: &[u32], b: &[u32], out: &mut [u32]) -> Result<(), Refusal> {
+    done(ffi::add(params, a, b, out))
+}
+
+/// a - b, as [`add`].
+pub fn sub(params: Params, a: &[u32], b: &[u32], out: &mut [u32]) -> Result<(), Refusal> {
+    done(ffi::sub(params, a, b, out))
+}
+
+/// a + multiplier * b, as [`add`]. The drift of b counts as often.
+pub fn add_mul(params: Params, a: &[u32], b: &[u32], multiplier: u32, out: &mut [u32]) -> Result<(), Refusal> {
+    done(ffi::add_mul(params, a, b, multiplier, out))
+}
+
+/// a - multiplier * b, as [`add`]. The drift of b counts as often.
+pub fn sub_mul(params: Params, a: &[u32], b: &[u32], multiplier: u32, out: &mut [u32]) -> Result<(), Refusal> {
+    done(ffi::sub_mul(params, a, b, multiplier, out))
+}
+
+/// The test vector of a table's words, f(0) to f(modulus - 1): `a` becomes zero, and coefficient i of `b` f at (i * modulus + N/2) div N, where that is `modulus` f(0) negated.
+///
+/// `table` has `modulus` words, `a` and `b` N. Refusals: 1, 2, 5.
+pub fn table_test_vector(params: Params, modulus: u64, table: &[u32], a: &mut [u32], b: &mut [u32]) -> Result<(), Refusal> {
+    done(ffi::table_testvec(params, modulus, table, a, b))
 }
 
 /// Makes the switching key. Masks and noise are used in row order.

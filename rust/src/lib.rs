@@ -4,13 +4,13 @@
 //! refusals, and a refused call has written to none of the memory lent to it. This crate turns lengths and pointers into slices, numbers into
 //! [`Refusal`], and adds what the archive leaves to its caller: memory, random numbers and noise. What it adds is ordinary Rust and not
 //! proved: [`Random`], [`Noise`] and the drawing of keys, [`Builder`], the order in which [`Circuit`] and its runner lend slices, how
-//! [`CloudKey::column_in_threads`] cuts a column, what [`Kind`] and [`Gate`] tell of themselves, [`Circuit::work_to`] by it, and how a [`DriftReport`] is
-//! printed.
+//! [`CloudKey::column_in_threads`] cuts a column, what [`Kind`] and [`Gate`] tell of themselves, [`Circuit::work_to`] by it, how a [`DriftReport`] is
+//! printed, and which words [`Table`] writes for messages and bits.
 //!
 //! Two ways to call:
 //!
-//! * everything lent: [`lent`] for encryption, decryption and generation of keys, [`CloudKey`] for gates and columns of them. Nothing is drawn, and nothing
-//!   allocated but by [`CloudKey::evaluate`] and [`CloudKey::evaluate_column`], which make the place of their result, and by threads.
+//! * everything lent: [`lent`] for encryption, decryption, sums and generation of keys, [`CloudKey`] for gates, columns of them and lookups. Nothing is drawn, and nothing
+//!   allocated but by [`CloudKey::evaluate`] and the others whose names start so, which make the place of their result, by [`Table`], which keeps its words, and by threads.
 //! * drawn and owned: [`SecretKeys`] and [`OwnedCloudKey`] draw keys, masks and noise from a source that the caller gives.
 //!
 //! ```no_run
@@ -74,6 +74,21 @@
 //!
 //! It speaks of wires and not of what is brought into rotations: that a run's outputs are right, [`DriftRun::inside`] tells.
 //!
+//! Small messages, of modulus 2 to 64, go through tables: a [`Table`] is made of a closure on small numbers, and [`CloudKey::lookup`] evaluates it on an encrypted message by one
+//! rotation, whatever the closure. Messages are added beforehand for nothing ([`CloudKey::evaluate_sum`]), tables chain, and a table of bits ends where gates take over:
+//!
+//! ```no_run
+//! use egl::{CloudKey, Refusal, Table};
+//!
+//! /// Whether a is lower than b, as a bit for gates. Both are digits from 0 to 3, encrypted as messages of modulus 8: 3 + a - b is from 0 to 6.
+//! fn lower(key: CloudKey<'_>, a: &[u32], b: &[u32]) -> Result<Vec<u32>, Refusal> {
+//!     let difference = key.evaluate_sum(8, 3, &[(1, a), (-1, b)])?;
+//!     key.evaluate_lookup(&Table::bits(8, |m| m < 3)?, &difference)
+//! }
+//! ```
+//!
+//! Whether a set has margin enough for a modulus, [`CloudKey::lookup_drift`] tells whoever holds the secret keys.
+//!
 //! No call of this crate panics, whatever it is given. The time that drawing takes depends on what is drawn, and memory that held
 //! secret keys is not wiped.
 
@@ -94,6 +109,7 @@ mod ffi;
 mod gate;
 mod kind;
 pub mod lent;
+mod lookup;
 mod noise;
 mod params;
 mod random;
@@ -101,6 +117,8 @@ mod refusal;
 mod run;
 mod secret;
 pub mod sets;
+mod sum;
+mod table;
 mod version;
 
 pub use builder::{Builder, Wire};
@@ -112,10 +130,12 @@ pub use drift_run::{DriftRun, GateDrift};
 pub use error::Error;
 pub use gate::Gate;
 pub use kind::Kind;
+pub use lookup::LookupDrift;
 pub use noise::Noise;
 pub use params::{Lengths, Params};
 pub use random::{Random, SystemRandom};
 pub use refusal::Refusal;
 pub use run::{Progress, Run};
 pub use secret::SecretKeys;
+pub use table::{message_margin, message_word, Table};
 pub use version::{archive_version, INTERFACE_VERSION};

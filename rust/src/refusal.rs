@@ -16,7 +16,7 @@ pub enum Refusal {
     Index,
     /// 4: a word of a secret key is neither 0 nor 1.
     SecretKeyWord,
-    /// 5: a message's modulus is not 2, 4, 8, 16, 32 or 64.
+    /// 5: a message's modulus is not 2, 4, 8, 16, 32 or 64, or twice a table's modulus does not divide N.
     Modulus,
     /// 6: a circuit's mark is wrong.
     CircuitMark {
@@ -132,7 +132,7 @@ impl fmt::Display for Refusal {
             Refusal::Length => f.write_str("refused (2): a slice has not exactly its stated length"),
             Refusal::Index => f.write_str("refused (3): a rotation amount, an extraction index or a key row's index is outside its range"),
             Refusal::SecretKeyWord => f.write_str("refused (4): a word of a secret key is neither 0 nor 1"),
-            Refusal::Modulus => f.write_str("refused (5): the message modulus is not 2, 4, 8, 16, 32 or 64"),
+            Refusal::Modulus => f.write_str("refused (5): the message modulus is not 2, 4, 8, 16, 32 or 64, or twice a table's modulus does not divide N"),
             Refusal::CircuitMark { place } => write!(f, "refused (6): the circuit does not start with its mark, at byte {place}"),
             Refusal::CircuitVersion { place } => write!(f, "refused (7): the circuit's version is not 1, at byte {place}"),
             Refusal::CircuitLength { place } => write!(f, "refused (8): the circuit's length or one of its counts is wrong, at byte {place}"),

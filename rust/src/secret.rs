@@ -1,7 +1,7 @@
 //! Secret keys, held by whoever encrypts and decrypts.
 
 use crate::random::{fill_bits, fill_words};
-use crate::{lent, Error, Lengths, Noise, Params, Random, Refusal};
+use crate::{lent, message_word, Error, Lengths, Noise, Params, Random, Refusal};
 use std::fmt;
 
 /// The secret keys of both levels. Level 0 encrypts and decrypts; level 1 serves the generation of the cloud key and drift runs.
@@ -93,6 +93,13 @@ impl SecretKeys {
     /// The drift of a ciphertext that is meant to carry a bit, in 2^-32 of a turn. Refused with 2 where it has not n + 1 words.
     pub fn fresh_drift(&self, ciphertext: &[u32], bit: bool) -> Result<i32, Refusal> {
         lent::fresh_drift(self.params, ciphertext, bit, &self.level0)
+    }
+
+    /// The own drift of a ciphertext that is meant to carry a message, `value` modulo `modulus`: its phase less the message's word, in 2^-32 of a turn. Refusals: 2, 5.
+    pub fn message_drift(&self, value: u64, modulus: u64, ciphertext: &[u32]) -> Result<i32, Refusal> {
+        // The library tells how far the phase is from a true bit's eighth of a turn.
+        let phase = lent::fresh_drift(self.params, ciphertext, true, &self.level0)?.wrapping_add(1 << 29);
+        Ok(phase.wrapping_sub(message_word(value, modulus)? as i32))
     }
 
     /// The bits of ciphertexts that stand one after another. Refused with 2 where the last one is cut short.

@@ -6,7 +6,7 @@ use Rattle.params.specs.declared.Params.{Params}
 use Rattle.params.specs.Ranges.{paramsNumber}
 use Rattle.params.specs.Sizes.{size, bootstrappingWords}
 use Rattle.refusals.proofs.Table.{good, done}
-use Rattle.blind_rotation.specs.Refusals.{stepChecks, stepNumber, blindChecks, blindNumber}
+use Rattle.blind_rotation.specs.Refusals.{stepChecks, stepNumber, blindChecks, blindNumber, vectorChecks, vectorNumber}
 
 -- what holds of a step that is not refused
 pub record StepGood (p : Params) (lk i la lb : ℕ) : Type 0 where
@@ -47,3 +47,24 @@ module _ (p : Params) (ls lk la lb : ℕ) where
   pub blind-done : BlindGood p ls lk la lb → blindNumber p ls lk la lb ≡ 0
   unfolding blindNumber
   blind-done g = done p (blindChecks p ls lk la lb) (g .range, (g .source, (g .key, (g .first, (g .second, tt)))))
+
+-- what holds of a rotation of a lent vector that is not refused
+pub record VectorGood (p : Params) (ls lva lvb lk la lb : ℕ) : Type 0 where
+  pub vector-a : lva ≡ size p
+  pub vector-b : lvb ≡ size p
+  pub rotation : BlindGood p ls lk la lb
+
+module _ (p : Params) (ls lva lvb lk la lb : ℕ) where
+  pub vector-good : vectorNumber p ls lva lvb lk la lb ≡ 0 → VectorGood p ls lva lvb lk la lb
+  unfolding vectorNumber
+  vector-good e =
+      let f = good p (vectorChecks p ls lva lvb lk la lb) refl e in
+      let g = f .1 .1 .1 in
+      record { vector-a = f .1 .0; vector-b = f .1 .1 .0; rotation = record { range = f .0; source = g .0; key = g .1 .0; first = g .1 .1 .0; second = g .1 .1 .1 .0 } }
+
+  -- for callers: good arguments are not refused
+  pub vector-done : VectorGood p ls lva lvb lk la lb → vectorNumber p ls lva lvb lk la lb ≡ 0
+  unfolding vectorNumber
+  vector-done g =
+      let r = g .rotation in
+      done p (vectorChecks p ls lva lvb lk la lb) (r .range, (g .vector-a, (g .vector-b, (r .source, (r .key, (r .first, (r .second, tt)))))))

@@ -5,4 +5,5 @@ pub mod Examples
 pub mod Phase
 pub mod Identity
 pub mod Start
+pub mod Vectors
 pub mod Determined

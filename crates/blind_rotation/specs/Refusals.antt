@@ -43,3 +43,15 @@ blindNumber p ls lk la lb = refusalBy p (blindChecks p ls lk la lb)
 -- What `blind_rotate` leaves in the pair of lent slices, which held o: the gates' start vector rotated.
 abbrev pub blindOut : Params → List ℕ → List ℕ → Pair → Pair
 blindOut p src key o = ifDone (blindNumber p (length src) (length key) (length (o .a)) (length (o .b))) (blindRotated p key src (testPair p)) o
+
+-- A rotation of a lent vector of lva and lvb words: the vector's, and those of a rotation.
+abbrev pub vectorChecks : Params → ℕ → ℕ → ℕ → ℕ → ℕ → ℕ → List Check
+vectorChecks p ls lva lvb lk la lb = is lva (size p) 2 ∷ is lvb (size p) 2 ∷ blindChecks p ls lk la lb
+
+-- Its number.
+unfoldable pub vectorNumber : Params → ℕ → ℕ → ℕ → ℕ → ℕ → ℕ → ℕ
+vectorNumber p ls lva lvb lk la lb = refusalBy p (vectorChecks p ls lva lvb lk la lb)
+
+-- What `blind_rotate_with_testvec` leaves in the pair of lent slices, which held o: the vector v rotated.
+abbrev pub vectorOut : Params → List ℕ → Pair → List ℕ → Pair → Pair
+vectorOut p src v key o = ifDone (vectorNumber p (length src) (length (v .a)) (length (v .b)) (length key) (length (o .a)) (length (o .b))) (blindRotated p key src v) o

@@ -1,4 +1,4 @@
-// Blind rotation (src/trgsw.rs, `blind_rotate`): its step, which is a routine of its own, and the whole.
+// Blind rotation (src/trgsw.rs, `blind_rotate`): its step, which is a routine of its own, and the whole; that of a lent vector stands in vector.rt.
 ghost use mathlib.Core.Path.{_≡_};
 ghost use Prim.Native.Nat.{_+_, _*_, _≤_, _<_};
 ghost use lib.ListN.{length};
@@ -13,6 +13,8 @@ use params::Params;
 use utils::Amount;
 use utils::Torus;
 ghost use Rattle.key.specs.Testvec.{testPair};
+
+pub mod vector;
 
 // One step by the amount k, with one bit's rows: the turned accumulator less the accumulator, in the scratch (ta, tb), times the rows is added to it.
 fn step_by(
@@ -81,8 +83,8 @@ fn all_steps(
     }
 }
 
-// The vector that the scratch (ta, tb) holds, rotated by the ciphertext: its start turned by b's amount, then the steps.
-fn rotate_from(
+// The vector that the scratch (ta, tb) holds, rotated by the ciphertext: its start turned by b's amount, then the steps. Every rotation, of the gates' vector and of a lent one, is this.
+pub(crate) fn rotate_from(
     p: Params,
     src: &[u32],
     key: &[u32],

@@ -26,7 +26,7 @@ use Rattle.decomposition.specs.Pair.{pairDigit}
 use Rattle.switching.specs.Switched.{rounding, rounded, maskField, usedRow, maskRows, switched}
 use Rattle.trgsw.specs.External.{rowA, rowB, external, cmuxOf}
 use Rattle.blind_rotation.specs.Blind.{turned, blindStep, stepsTo, startOf, blindRotated}
-use Rattle.samples.specs.Sample.{rotatedSample}
+use Rattle.samples.specs.Sample.{sampleFrom, rotatedSample}
 use Rattle.ways.specs.Ciphers.{cipherAt}
 use Rattle.ways.specs.Ways.{ways, wayOf, rotationsOf, rotationSum, rotatedSums, made, ran}
 use Rattle.columns.specs.Column.{pairGate, pairResult, columnOf}
@@ -72,5 +72,5 @@ ksk = withoutIdle two (multiples 8 0x85EBCA6B)
 
 pub two-pairs : (columnOf two ksk (multiples 24 0x9E3779B1) 8 2 pairs ≡ 0 ∷ 0x03779B11 ∷ 0x3B35E82E ∷ 0x9E872E05 ∷ [])
     × (columnOf two ksk (multiples 24 0x9E3779B1) 5 2 pairs ≡ 0 ∷ 0xC89FC08E ∷ 0 ∷ 0x9746CDE4 ∷ [])
-unfolding part joined trivial extract plus minus before times scale total sumTo tab source rotated Q neg comp fieldOf negative half step maskAmount bodyAmount bitRows offset rowOuter rowField rowDigit withoutIdle formerRow formerIndex rowIndex rowPart summed digitOf digitPoly pairDigit rounding rounded maskField usedRow maskRows switched rowA rowB external cmuxOf turned blindStep stepsTo startOf blindRotated rotatedSample cipherAt ways wayOf rotationsOf rotationSum rotatedSums made ran pairGate pairResult columnOf
+unfolding part joined trivial extract plus minus before times scale total sumTo tab source rotated Q neg comp fieldOf negative half step maskAmount bodyAmount bitRows offset rowOuter rowField rowDigit withoutIdle formerRow formerIndex rowIndex rowPart summed digitOf digitPoly pairDigit rounding rounded maskField usedRow maskRows switched rowA rowB external cmuxOf turned blindStep stepsTo startOf blindRotated sampleFrom rotatedSample cipherAt ways wayOf rotationsOf rotationSum rotatedSums made ran pairGate pairResult columnOf
 two-pairs = (refl, refl)

@@ -39,12 +39,12 @@ use Rattle.ways.specs.Ciphers.{cipherAt}
 use Rattle.encrypted_run.specs.Run.{gateCipher, ciphersTo, ciphersOf}
 use Rattle.encrypted_run.specs.Rotations.{gateRotated, rotatedTo, rotatedOf}
 use Rattle.drift.specs.Polynomials.{centred, wholeSum, wholeTimes, wholeTurn, wholePhase, wholePairPhase}
-use Rattle.drift.specs.Whole.{inside, freshDrift, shouldCarry, bootstrappingError, switchingError, remainder, broughtIn, complementsDrift, rowsDrift, stepDrift, rotationDrift, extractedDrift, switchedDrift, gateDrift, muxDrift}
+use Rattle.drift.specs.Whole.{inside, freshDrift, shouldCarry, bootstrappingError, switchingError, remainder, roundingDrift, broughtIn, complementsDrift, rowsDrift, stepDrift, rotationDrift, extractedDrift, switchedDrift, rotatedDrift, gateDrift, muxDrift}
 use Rattle.drift.specs.Circuit.{wayDrift, wayBrought, gateDriftOn, gateBroughtOn, freshTo, driftsTo, broughtTo, driftsOf, broughtOf, outputDriftsTo, allOf, allInside}
 use Rattle.drift.proofs.Examples.{junk}
 use Rattle.ring.specs.Lists.{joined, part}
 use Rattle.key.specs.Bits.{bitRows}
-use Rattle.samples.specs.Sample.{rotatedSample}
+use Rattle.samples.specs.Sample.{sampleFrom, rotatedSample}
 
 -- ---- one nand
 
@@ -98,14 +98,14 @@ pub nand-inside : (allInside eight key z ksk bsk nand noisy bits ≡ true)
     × (driftsOf eight key z ksk bsk nand noisy bits ≡ pos 0xC000000 ∷ pos 0xC000000 ∷ negℤ (pos 14325906) ∷ [])
     × (broughtOf eight key z ksk bsk nand noisy bits ≡ negℤ (pos 0x10000000) ∷ [])
     × (bitOf (phaseOf 1 key (cipherAt eight (ciphersOf eight ksk bsk nand noisy) 2)) ≡ false)
-unfolding Q neg comp H centre sumTo tab scale plus minus before times total source rotated complemented extract after inner phaseOf half step maskAmount bodyAmount offset carried rowOuter rowField rowDigit rowMasks generatedRow joined generated rowIndex rowPart digitField digitOf digitPoly digitWeight pairDigit part rowA rowB external cmuxOf lowPoly turned bitRows blindStep stepsTo startOf blindRotated rounding rounded maskField usedRow maskRows switched dropped trivial summed rotatedSample byteField ways wayOf rotationsOf rotationSum rotatedSums made ran cipherAt gateCipher ciphersTo centred wholeSum wholeTimes wholeTurn wholePhase wholePairPhase inside freshDrift shouldCarry bootstrappingError switchingError remainder broughtIn complementsDrift rowsDrift stepDrift rotationDrift extractedDrift switchedDrift gateDrift wayDrift wayBrought gateDriftOn gateBroughtOn freshTo driftsTo broughtTo outputDriftsTo allOf allInside
+unfolding Q neg comp H centre sumTo tab scale plus minus before times total source rotated complemented extract after inner phaseOf half step maskAmount bodyAmount offset carried rowOuter rowField rowDigit rowMasks generatedRow joined generated rowIndex rowPart digitField digitOf digitPoly digitWeight pairDigit part rowA rowB external cmuxOf lowPoly turned bitRows blindStep stepsTo startOf blindRotated rounding rounded maskField usedRow maskRows switched dropped trivial summed sampleFrom rotatedSample byteField ways wayOf rotationsOf rotationSum rotatedSums made ran cipherAt gateCipher ciphersTo centred wholeSum wholeTimes wholeTurn wholePhase wholePairPhase inside freshDrift shouldCarry bootstrappingError switchingError remainder roundingDrift broughtIn complementsDrift rowsDrift stepDrift rotationDrift extractedDrift switchedDrift rotatedDrift gateDrift wayDrift wayBrought gateDriftOn gateBroughtOn freshTo driftsTo broughtTo outputDriftsTo allOf allInside
 nand-inside = (refl, refl, refl, refl)
 
 -- 2^29 is not inside: the turn falls on the other side, and the output decrypts to true
 pub nand-outside : (allInside eight key z ksk bsk nand noisier bits ≡ false)
     × (broughtOf eight key z ksk bsk nand noisier bits ≡ pos 0x20000000 ∷ [])
     × (bitOf (phaseOf 1 key (cipherAt eight (ciphersOf eight ksk bsk nand noisier) 2)) ≡ true)
-unfolding Q neg comp H centre sumTo tab scale plus minus before times total source rotated complemented extract after inner phaseOf half step maskAmount bodyAmount offset carried rowOuter rowField rowDigit rowMasks generatedRow joined generated rowIndex rowPart digitField digitOf digitPoly digitWeight pairDigit part rowA rowB external cmuxOf lowPoly turned bitRows blindStep stepsTo startOf blindRotated rounding rounded maskField usedRow maskRows switched dropped trivial summed rotatedSample byteField ways wayOf rotationsOf rotationSum rotatedSums made ran cipherAt gateCipher ciphersTo centred wholeSum wholeTimes wholeTurn wholePhase wholePairPhase inside freshDrift shouldCarry bootstrappingError switchingError remainder broughtIn complementsDrift rowsDrift stepDrift rotationDrift extractedDrift switchedDrift gateDrift wayDrift wayBrought gateDriftOn gateBroughtOn freshTo driftsTo broughtTo outputDriftsTo allOf allInside
+unfolding Q neg comp H centre sumTo tab scale plus minus before times total source rotated complemented extract after inner phaseOf half step maskAmount bodyAmount offset carried rowOuter rowField rowDigit rowMasks generatedRow joined generated rowIndex rowPart digitField digitOf digitPoly digitWeight pairDigit part rowA rowB external cmuxOf lowPoly turned bitRows blindStep stepsTo startOf blindRotated rounding rounded maskField usedRow maskRows switched dropped trivial summed sampleFrom rotatedSample byteField ways wayOf rotationsOf rotationSum rotatedSums made ran cipherAt gateCipher ciphersTo centred wholeSum wholeTimes wholeTurn wholePhase wholePairPhase inside freshDrift shouldCarry bootstrappingError switchingError remainder roundingDrift broughtIn complementsDrift rowsDrift stepDrift rotationDrift extractedDrift switchedDrift rotatedDrift gateDrift wayDrift wayBrought gateDriftOn gateBroughtOn freshTo driftsTo broughtTo outputDriftsTo allOf allInside
 nand-outside = (refl, refl, refl)
 
 -- a bootstrapping key of no words, which reads as zeros: what is brought in is inside, but the output's drift is a quarter of a turn, and it decrypts to true
@@ -113,7 +113,7 @@ pub nand-astray : (allInside eight key z ksk [] nand noisy bits ≡ false)
     × (broughtOf eight key z ksk [] nand noisy bits ≡ negℤ (pos 0x10000000) ∷ [])
     × (driftsOf eight key z ksk [] nand noisy bits ≡ pos 0xC000000 ∷ pos 0xC000000 ∷ pos 0x40000000 ∷ [])
     × (bitOf (phaseOf 1 key (cipherAt eight (ciphersOf eight ksk [] nand noisy) 2)) ≡ true)
-unfolding Q neg comp H centre sumTo tab scale plus minus before times total source rotated complemented extract after inner phaseOf half step maskAmount bodyAmount offset carried rowOuter rowField rowDigit rowMasks generatedRow joined generated rowIndex rowPart digitField digitOf digitPoly digitWeight pairDigit part rowA rowB external cmuxOf lowPoly turned bitRows blindStep stepsTo startOf blindRotated rounding rounded maskField usedRow maskRows switched dropped trivial summed rotatedSample byteField ways wayOf rotationsOf rotationSum rotatedSums made ran cipherAt gateCipher ciphersTo centred wholeSum wholeTimes wholeTurn wholePhase wholePairPhase inside freshDrift shouldCarry bootstrappingError switchingError remainder broughtIn complementsDrift rowsDrift stepDrift rotationDrift extractedDrift switchedDrift gateDrift wayDrift wayBrought gateDriftOn gateBroughtOn freshTo driftsTo broughtTo outputDriftsTo allOf allInside
+unfolding Q neg comp H centre sumTo tab scale plus minus before times total source rotated complemented extract after inner phaseOf half step maskAmount bodyAmount offset carried rowOuter rowField rowDigit rowMasks generatedRow joined generated rowIndex rowPart digitField digitOf digitPoly digitWeight pairDigit part rowA rowB external cmuxOf lowPoly turned bitRows blindStep stepsTo startOf blindRotated rounding rounded maskField usedRow maskRows switched dropped trivial summed sampleFrom rotatedSample byteField ways wayOf rotationsOf rotationSum rotatedSums made ran cipherAt gateCipher ciphersTo centred wholeSum wholeTimes wholeTurn wholePhase wholePairPhase inside freshDrift shouldCarry bootstrappingError switchingError remainder roundingDrift broughtIn complementsDrift rowsDrift stepDrift rotationDrift extractedDrift switchedDrift rotatedDrift gateDrift wayDrift wayBrought gateDriftOn gateBroughtOn freshTo driftsTo broughtTo outputDriftsTo allOf allInside
 nand-astray = (refl, refl, refl, refl)
 
 -- ---- five gates on junk
@@ -145,5 +145,5 @@ pub five-gates : (driftsOf two key (1 ∷ 1 ∷ []) five-ksk (junk 16 7) five tw
     × (broughtOf two key (1 ∷ 1 ∷ []) five-ksk (junk 16 7) five two-inputs (1 ∷ 0 ∷ []) ≡ pos 0x20000000 ∷ negℤ (pos 0x60000000) ∷ pos 0x20000000 ∷ [])
     × (rotatedOf two five-ksk (junk 16 7) five two-inputs ≡ (0xA1672AC8 ∷ 0xF69C38CA ∷ []) ∷ (0xE68A7AE3 ∷ 0x88AC8BDD ∷ []) ∷ (0x20DECC73 ∷ 0x04C114F0 ∷ []) ∷ [])
     × (workOf five ≡ 3)
-unfolding Q neg comp H centre sumTo tab scale plus minus before times total source rotated complemented extract after inner phaseOf half step maskAmount bodyAmount offset carried rowOuter rowField rowDigit withoutIdle formerRow formerIndex joined rowIndex rowPart digitField digitOf digitPoly digitWeight pairDigit part rowA rowB external cmuxOf lowPoly turned bitRows blindStep stepsTo startOf blindRotated rounding rounded maskField usedRow maskRows switched dropped trivial summed negative constantOf muxSum rotatedSample byteField ways wayOf rotationsOf rotationSum rotatedSums made ran cipherAt gateCipher ciphersTo centred wholeSum wholeTimes wholeTurn wholePhase wholePairPhase inside freshDrift shouldCarry bootstrappingError switchingError remainder broughtIn complementsDrift rowsDrift stepDrift rotationDrift extractedDrift switchedDrift gateDrift muxDrift wayDrift wayBrought gateDriftOn gateBroughtOn freshTo driftsTo broughtTo outputDriftsTo allOf allInside rotatedTo gateRotated workOf kindOf kinds
+unfolding Q neg comp H centre sumTo tab scale plus minus before times total source rotated complemented extract after inner phaseOf half step maskAmount bodyAmount offset carried rowOuter rowField rowDigit withoutIdle formerRow formerIndex joined rowIndex rowPart digitField digitOf digitPoly digitWeight pairDigit part rowA rowB external cmuxOf lowPoly turned bitRows blindStep stepsTo startOf blindRotated rounding rounded maskField usedRow maskRows switched dropped trivial summed negative constantOf muxSum sampleFrom rotatedSample byteField ways wayOf rotationsOf rotationSum rotatedSums made ran cipherAt gateCipher ciphersTo centred wholeSum wholeTimes wholeTurn wholePhase wholePairPhase inside freshDrift shouldCarry bootstrappingError switchingError remainder roundingDrift broughtIn complementsDrift rowsDrift stepDrift rotationDrift extractedDrift switchedDrift rotatedDrift gateDrift muxDrift wayDrift wayBrought gateDriftOn gateBroughtOn freshTo driftsTo broughtTo outputDriftsTo allOf allInside rotatedTo gateRotated workOf kindOf kinds
 five-gates = (refl, refl, refl, refl)

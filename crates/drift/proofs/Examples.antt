@@ -29,11 +29,12 @@ use Rattle.switching.specs.Drift.{dropped}
 use Rattle.gate_sums.specs.declared.Kind.the-variants.{Xor}
 use Rattle.gate_sums.specs.Sum.{muxSum}
 use Rattle.drift.specs.Polynomials.{centred, wholeSum, wholeTimes, wholeTurn, wholePhase, wholePairPhase}
-use Rattle.drift.specs.Whole.{inside, freshDrift, shouldCarry, bootstrappingError, switchingError, remainder, broughtIn, complementsDrift, rowsDrift, stepDrift, rotationDrift, extractedDrift, switchedDrift, gateDrift, muxDrift}
+use Rattle.drift.specs.Whole.{inside, freshDrift, shouldCarry, bootstrappingError, switchingError, remainder, roundingDrift, broughtIn, complementsDrift, rowsDrift, stepDrift, rotationDrift, extractedDrift, switchedDrift, rotatedDrift, gateDrift, muxDrift}
 use Rattle.drift.specs.Circuit.{worse, worstFrom, worstOf}
 use Rattle.ring.specs.Lists.{part, joined}
 use Rattle.key.specs.Bits.{bitRows}
-use Rattle.samples.specs.Sample.{rotatedSample}
+use Rattle.samples.specs.Sample.{sampleFrom, rotatedSample}
+use Rattle.key.specs.Testvec.{testPair}
 use Rattle.drift_size.specs.Size.{insideWord}
 
 -- ---- by hand
@@ -96,7 +97,7 @@ other = 0xBADCAFE5 ∷ 0x0DEFACED ∷ []
 
 -- fresh drifts, and what is brought in: a and twice b, b's remainder, less the mask's
 pub fresh-values : (freshDrift small key src true ≡ pos 1326388210) × (freshDrift small key src false ≡ negℤ (pos 1894837262)) × (broughtIn small Xor key src (pos 1000) (negℤ (pos 2000)) ≡ negℤ (pos 789520298))
-unfolding Q neg H centre half step centred wholeSum wholePhase freshDrift remainder broughtIn
+unfolding Q neg H centre half step centred wholeSum wholePhase freshDrift remainder roundingDrift broughtIn
 fresh-values = (refl, refl, refl)
 
 -- errors: of rows 0 and 2 of the bootstrapping key for the key bit 1, and of row (1, 1, 3) of the switching key
@@ -111,9 +112,9 @@ abbrev falling : List ℕ
 falling = 0x2BADCAFE ∷ 0x1ABCDEF0 ∷ []
 
 -- the rotation's drift after its one step, a turn by 1: with key bit 1, with 0, and with 1 where digits are negative
-pub step-values : (rotationDrift small key ones (junk 16 7) src 1 0 ≡ negℤ (pos 675072817)) × (rotationDrift small key ones (junk 16 7) src 1 1 ≡ pos 3011887013)
-    × (rotationDrift small (0 ∷ []) ones (junk 16 7) src 1 0 ≡ pos 398669007) × (rotationDrift small (0 ∷ []) ones (junk 16 7) src 1 1 ≡ pos 3011887013)
-    × (rotationDrift small key ones (junk 16 7) falling 1 0 ≡ pos 1433139624) × (rotationDrift small key ones (junk 16 7) falling 1 1 ≡ negℤ (pos 1180264534))
+pub step-values : (rotationDrift small key ones (junk 16 7) (testPair small) src 1 0 ≡ negℤ (pos 675072817)) × (rotationDrift small key ones (junk 16 7) (testPair small) src 1 1 ≡ pos 3011887013)
+    × (rotationDrift small (0 ∷ []) ones (junk 16 7) (testPair small) src 1 0 ≡ pos 398669007) × (rotationDrift small (0 ∷ []) ones (junk 16 7) (testPair small) src 1 1 ≡ pos 3011887013)
+    × (rotationDrift small key ones (junk 16 7) (testPair small) falling 1 0 ≡ pos 1433139624) × (rotationDrift small key ones (junk 16 7) (testPair small) falling 1 1 ≡ negℤ (pos 1180264534))
 unfolding Q neg comp H centre sumTo tab minus source rotated complemented half step maskAmount bodyAmount offset digitField digitOf digitPoly digitWeight pairDigit part rowA rowB lowPoly turned bitRows stepsTo startOf centred wholeSum wholeTimes wholeTurn wholePairPhase shouldCarry bootstrappingError complementsDrift rowsDrift stepDrift rotationDrift
 step-values = (refl, refl, refl, refl, refl, refl)
 
@@ -121,5 +122,5 @@ step-values = (refl, refl, refl, refl, refl, refl)
 pub gate-values : (switchedDrift small key ones ksk (0x12345678 ∷ 0x9ABCDEF0 ∷ 0 ∷ []) ≡ negℤ (pos 514162075))
     × (gateDrift small key ones ksk (junk 16 7) src ≡ pos 809288528)
     × (muxDrift small key ones ksk (junk 16 7) src other ≡ negℤ (pos 1965194713))
-unfolding Q neg comp H centre sumTo tab plus minus before times total source rotated complemented extract after half step maskAmount bodyAmount offset rowOuter rowField rowDigit joined withoutIdle formerRow formerIndex rowIndex rowPart digitField digitOf digitPoly digitWeight pairDigit part rowA rowB external cmuxOf lowPoly turned bitRows blindStep stepsTo startOf blindRotated rounding rounded maskField dropped trivial muxSum rotatedSample centred wholeSum wholeTimes wholeTurn wholePhase wholePairPhase shouldCarry bootstrappingError switchingError complementsDrift rowsDrift stepDrift rotationDrift extractedDrift switchedDrift gateDrift muxDrift
+unfolding Q neg comp H centre sumTo tab plus minus before times total source rotated complemented extract after half step maskAmount bodyAmount offset rowOuter rowField rowDigit joined withoutIdle formerRow formerIndex rowIndex rowPart digitField digitOf digitPoly digitWeight pairDigit part rowA rowB external cmuxOf lowPoly turned bitRows blindStep stepsTo startOf blindRotated rounding rounded maskField dropped trivial muxSum sampleFrom rotatedSample centred wholeSum wholeTimes wholeTurn wholePhase wholePairPhase shouldCarry bootstrappingError switchingError complementsDrift rowsDrift stepDrift rotationDrift extractedDrift switchedDrift rotatedDrift gateDrift muxDrift
 gate-values = (refl, refl, refl)

@@ -31,22 +31,25 @@ use Rattle.blind_rotation.specs.Drift.{complementWords, stepMoved, driftStep, d
 use Rattle.switching.specs.Switched.{rounding, maskField}
 use Rattle.switching.specs.Drift.{dropped, used, usedErrors, roundedBy, switchingDrift}
 use Rattle.drift.specs.Polynomials.{wholeSum, wholes, signeds, wholeTimes, wholeTurn, wholePairPhase}
-use Rattle.drift.specs.Whole.{shouldCarry, bootstrappingError, switchingError, remainder, complementsDrift, rowsDrift, stepDrift, rotationDrift, extractedDrift, switchedDrift}
-use Rattle.drift.specs.PrivateWords.{remainderWord, selectedWord, extractedWord}
+use Rattle.drift.specs.Whole.{shouldCarry, bootstrappingError, switchingError, remainder, roundingDrift, complementsDrift, rowsDrift, stepDrift, rotationDrift, extractedDrift, switchedDrift}
+use Rattle.drift.specs.PrivateWords.{remainderWord, selectedWord, roundingWord, extractedWord}
 use Rattle.drift.proofs.Residues.{Is, is-pos, is-add, is-times, is-neg, is-minus, is-same, is-mod, is-sum, is-centre, is-centred, Are, are-wholes, are-tab, are-plus, are-minus, are-times, are-turned, are-total, is-phase, are-phase}
 use Rattle.ring.specs.Pair.{Pair}
-use Rattle.key.specs.Testvec.{testPair}
 use Rattle.key.specs.Bits.{bitRows}
 
 -- ---- remainders
 
-pub is-remainder : (p : Params) (x : ℕ) → Is (remainder p x) (remainderWord p x)
+is-remainder : (p : Params) (x : ℕ) → Is (remainder p x) (remainderWord p x)
 unfolding remainder remainderWord
 is-remainder p x = is-mod (is-minus (is-pos ((x + half p) / step p * step p)) (is-pos x))
 
-pub is-selected : (p : Params) (key src : List ℕ) → Is (wholeSum (p .n) (λ i. wholes key i *ℤ remainder p (at src i))) (selectedWord p key src)
+is-selected : (p : Params) (key src : List ℕ) → Is (wholeSum (p .n) (λ i. wholes key i *ℤ remainder p (at src i))) (selectedWord p key src)
 unfolding selectedWord
 is-selected p key src = is-sum (p .n) _ _ (λ i l. is-times (is-pos (at key i)) (is-remainder p (at src i)))
+
+pub is-rounding : (p : Params) (key src : List ℕ) → Is (roundingDrift p key src) (roundingWord p key src)
+unfolding roundingDrift roundingWord
+is-rounding p key src = is-mod (is-minus (is-remainder p (at src (p .n))) (is-selected p key src))
 
 -- ---- the rotation
 
@@ -126,14 +129,14 @@ module _ (p : Params) (z : List ℕ) where
       (are-rows (bitRows p bsk i) 1 y)
   are-stepped bsk i (suc (suc bit)) mask x f e b h = absurd (let q : ⊥ = omega arith in q)
 
-  module _ (key : List ℕ) (bits : (i : ℕ) → at key i ≤ 1) (bsk src : List ℕ) where
-    pub are-drifts : (i : ℕ) → Are N (rotationDrift p key z bsk src i) (driftTo p key z bsk src (testPair p) i)
+  module _ (key : List ℕ) (bits : (i : ℕ) → at key i ≤ 1) (bsk : List ℕ) (v : Pair) (src : List ℕ) where
+    pub are-drifts : (i : ℕ) → Are N (rotationDrift p key z bsk v src i) (driftTo p key z bsk src v i)
     unfolding rotationDrift driftTo
     are-drifts zero = are-complements (bodyAmount p (at src (p .n)))
-    are-drifts (suc i) = are-stepped bsk i (at key i) (at src i) (stepsTo p bsk src (startOf p (testPair p) (at src (p .n))) i) (rotationDrift p key z bsk src i)
-        (driftTo p key z bsk src (testPair p) i) (bits i) (are-drifts i)
+    are-drifts (suc i) = are-stepped bsk i (at key i) (at src i) (stepsTo p bsk src (startOf p v (at src (p .n))) i) (rotationDrift p key z bsk v src i)
+        (driftTo p key z bsk src v i) (bits i) (are-drifts i)
 
-    pub is-extracted : Is (extractedDrift p key z bsk src) (extractedWord p key z bsk src)
+    pub is-extracted : Is (extractedDrift p key z bsk v src) (extractedWord p key z bsk v src)
     unfolding extractedDrift extractedWord
     is-extracted = is-mod (is-add (are-drifts (p .n) 0 (size-from p)) (is-pos (after N 0 z)))
 

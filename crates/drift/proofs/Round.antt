@@ -38,7 +38,7 @@ use Rattle.drift.specs.PrivateShort.{sideOf}
 use Rattle.drift.specs.PrivateWords.{remainderWord, selectedWord, roundingWord}
 use Rattle.drift_size.specs.Size.{insideWord}
 
-source-below : (N k i : ℕ) → 0 < N → source N k i < N + N
+pub source-below : (N k i : ℕ) → 0 < N → source N k i < N + N
 unfolding source
 source-below N k i h = mod-lt _ (let q : 0 < N + N = omega arith in q)
 
@@ -222,7 +222,7 @@ module _ (p : Params) (r : InRange p) where
   steps-below : (R : ℕ) → R < size p + size p → R * step p < Q
   steps-below R l = let m = mul-le-mul-right (step p) (let u : R + 1 ≤ size p + size p = omega arith in u) in omega (arith, turn-steps p r, step-pos)
 
-  half-turn : size p * step p ≡ H
+  pub half-turn : size p * step p ≡ H
   half-turn = let u = turn-steps p r in omega (arith, Q-is)
 
   -- the place in steps

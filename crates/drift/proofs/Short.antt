@@ -19,14 +19,15 @@ use Rattle.ways.specs.declared.Way.{Way}
 use Rattle.ways.specs.declared.Way.the-variants.{Known, Negated, Gate, NegatedGate, Choice}
 use Rattle.ways.specs.Ways.{ran}
 use Rattle.ways.proofs.Made.{ran-gate, ran-negated-gate, ran-choice}
-use Rattle.drift.specs.PrivateWords.{gateWord, muxWord}
+use Rattle.drift.specs.PrivateWords.{rotatedWord, gateWord, muxWord}
+use Rattle.drift.proofs.Track.{neg-mod}
 use Rattle.drift.specs.PrivateCircuit.{wayWord}
 use Rattle.drift.specs.PrivateShort.{sideOf, carriedWord, shortWord}
 use Rattle.drift.proofs.Sides.{gate-side, mux-side}
 use Rattle.ring.specs.Phase.{phaseOf}
 
 -- a phase less what it carries
-less : (f b d : ℕ) → d < Q → f ≡ (b + d) % Q → (f + neg b) % Q ≡ d
+pub less : (f b d : ℕ) → d < Q → f ≡ (b + d) % Q → (f + neg b) % Q ≡ d
 unfolding neg Q
 less f b d l e = omega arith
 
@@ -52,19 +53,15 @@ second : (d : ℕ) → (neg d % Q + d) % Q ≡ 0
 unfolding neg Q
 second d = omega arith
 
-same : (x : ℕ) → neg (x % Q) ≡ neg x
-unfolding neg Q
-same x = omega arith
-
 back : (b d : ℕ) → (neg ((b + d) % Q) % Q + b) % Q ≡ neg d % Q
-back b d = ap (λ (x : ℕ). (x % Q + b) % Q) (same (b + d)) ∙ only ((neg (b + d) % Q + b) % Q) (neg d % Q) d (mod-lt _ Q-pos) (mod-lt _ Q-pos) (first b d) (second d)
+back b d = ap (λ (x : ℕ). (x % Q + b) % Q) (neg-mod (b + d)) ∙ only ((neg (b + d) % Q + b) % Q) (neg d % Q) d (mod-lt _ Q-pos) (mod-lt _ Q-pos) (first b d) (second d)
 
 less-negated : (f g b d : ℕ) → f ≡ neg g % Q → g ≡ (b + d) % Q → (f + neg (neg b)) % Q ≡ neg d % Q
 less-negated f g b d e h = twice f b ∙ ap (λ (x : ℕ). (x + b) % Q) (e ∙ ap (λ (x : ℕ). neg x % Q) h) ∙ back b d
 
 module _ (p : Params) (r : InRange p) (key z : List ℕ) (binary-key : binary key ≡ true) (ksk bsk : List ℕ) where
   gate-below : (src : List ℕ) → gateWord p key z ksk bsk src < Q
-  unfolding gateWord
+  unfolding gateWord rotatedWord
   gate-below src = mod-lt _ Q-pos
 
   mux-below : (s t : List ℕ) → muxWord p key z ksk bsk s t < Q

@@ -1,7 +1,7 @@
--- A gate's phase, whatever its drift: the side on which the rounded turn falls gives the front of the turned test vector, so the phase is ±2^29 by that side plus
--- the drift that 01 reckons. The rotation's identity, extraction and switching, one after another.
+-- The phase of a rotated vector, whatever its drift: what the turns bring to the front plus the drift that 01 reckons; the rotation's front, extraction and switching, one
+-- after another (`extracted-front`, `rotated-front`, of gates and of tables). Of the gates' vector the front is ±2^29 by the side on which the rounded turn falls.
 -- Assumes nothing.
-use mathlib.Core.Path.{_≡_, sym, ap, ap₂, _∙_}
+use mathlib.Core.Path.{_≡_, refl, sym, ap, ap₂, _∙_}
 use mathlib.Core.Bool.{Bool, true, cond}
 use mathlib.Core.List.{List}
 use Prim.Native.Nat.{ℕ, _+_, _-_, _%_, _^_, _≤_, _<_}
@@ -28,12 +28,14 @@ use Rattle.switching.proofs.Phase.{switching-phase}
 use Rattle.gate_sums.specs.declared.Kind.the-variants.{And, AndNy}
 use Rattle.gate_sums.specs.Sum.{summed, muxSum}
 use Rattle.gates.specs.Gate.{bootstrapped, muxed}
-use Rattle.ring.proofs.Places.{at-plus}
-use Rattle.drift.specs.PrivateShort.{sideOf}
-use Rattle.drift.specs.PrivateWords.{extractedWord, gateWord, muxWord}
-use Rattle.drift.proofs.Track.{tracked}
+use Rattle.drift.specs.PrivateShort.{frontWord, sideOf}
+use Rattle.drift.specs.PrivateWords.{extractedWord, rotatedWord, gateWord, muxWord}
+use Rattle.drift.proofs.Track.{front-tracked}
 use Rattle.drift.proofs.Phases.{key-bit, together, mux-phase}
-use Rattle.samples.specs.Sample.{rotatedSample}
+use Rattle.samples.specs.Sample.{sampleFrom, rotatedSample}
+use Rattle.switching.specs.Switched.{switched}
+use Rattle.ring.specs.Pair.{Pair}
+use Rattle.ring.specs.Sums.{tab}
 
 flatten : (x y c s : ℕ) → (((x % Q + y % Q) % Q + c) % Q + s) % Q ≡ (x + y + c + s) % Q
 flatten x y c s =
@@ -47,8 +49,8 @@ join : (x y d e s c : ℕ) → ((((x + d) % Q + (y + e) % Q) % Q + c) % Q + s) %
 join x y d e s c = flatten (x + d) (y + e) c s ∙ gather x y d e c s
 
 -- the front of the turned test vector, by the side
-side-front : (p : Params) (key src : List ℕ) → at (negating (size p) (turnTo p key src (p .n)) (testPair p .b)) 0 ≡ bitWord (sideOf p key src)
-unfolding sideOf negating source neg Q
+side-front : (p : Params) (key src : List ℕ) → frontWord p (testPair p) key src ≡ bitWord (sideOf p key src)
+unfolding frontWord sideOf negating source neg Q
 side-front p key src =
     let N = size p in
     let S = source N (turnTo p key src (p .n)) 0 in
@@ -60,24 +62,32 @@ side-front p key src =
     ap (λ (x : ℕ). (2 ^ 32 - x % 2 ^ 32) % 2 ^ 32) (at-tab N (λ i. 2 ^ 29) (S - N) (omega arith)))
 
 module _ (p : Params) (r : InRange p) (key z : List ℕ) (binary-key : binary key ≡ true) (ksk bsk : List ℕ) where
-  -- the extracted sample of a rotation
-  pub extracted-side : (src : List ℕ) → phaseOf (size p) z (rotatedSample p bsk src) ≡ (bitWord (sideOf p key src) + extractedWord p key z bsk src) % Q
-  unfolding rotatedSample extractedWord
-  extracted-side src =
-      let N = size p in
-      let d = driftTo p key z bsk src (testPair p) (p .n) in
-      phase-extracted N (size-from p) 0 z (blindRotated p bsk src (testPair p) .a) (blindRotated p bsk src (testPair p) .b) (size-from p)
-      ∙ ap (λ (t : ℕ). (t + after N 0 z) % Q)
-      (ap (λ (u : List ℕ). at u 0) (tracked p r key z bsk src (key-bit key binary-key)) ∙ at-plus N _ d 0 (size-from p) ∙ ap (λ (t : ℕ). (t + at d 0) % Q) (side-front p key src))
-      ∙ together (bitWord (sideOf p key src)) (at d 0) (after N 0 z)
+  -- the extracted sample of a rotation, and the switched one: of any vector whose a is zero
+  module _ (v : Pair) (zero-a : v .a ≡ tab (size p) (λ i. 0)) (src : List ℕ) where
+    pub extracted-front : phaseOf (size p) z (sampleFrom p v bsk src) ≡ (frontWord p v key src + extractedWord p key z bsk v src) % Q
+    unfolding sampleFrom extractedWord
+    extracted-front =
+        let N = size p in
+        let d = at (driftTo p key z bsk src v (p .n)) 0 in
+        phase-extracted N (size-from p) 0 z (blindRotated p bsk src v .a) (blindRotated p bsk src v .b) (size-from p)
+        ∙ ap (λ (t : ℕ). (t + after N 0 z) % Q) (front-tracked p r key z bsk src v zero-a (key-bit key binary-key))
+        ∙ together (frontWord p v key src) d (after N 0 z)
 
-  -- a gate
+    pub rotated-front : phaseOf (p .n) key (switched p ksk (sampleFrom p v bsk src)) ≡ (frontWord p v key src + rotatedWord p key z ksk bsk v src) % Q
+    unfolding rotatedWord
+    rotated-front =
+        switching-phase p r z (sampleFrom p v bsk src) key ksk
+        ∙ ap (λ (t : ℕ). (t + switchingDrift p key z ksk (sampleFrom p v bsk src)) % Q) extracted-front
+        ∙ together (frontWord p v key src) (extractedWord p key z bsk v src) (switchingDrift p key z ksk (sampleFrom p v bsk src))
+
+  -- a gate's
+  pub extracted-side : (src : List ℕ) → phaseOf (size p) z (rotatedSample p bsk src) ≡ (bitWord (sideOf p key src) + extractedWord p key z bsk (testPair p) src) % Q
+  unfolding rotatedSample
+  extracted-side src = extracted-front (testPair p) refl src ∙ ap (λ (t : ℕ). (t + extractedWord p key z bsk (testPair p) src) % Q) (side-front p key src)
+
   pub gate-side : (src : List ℕ) → phaseOf (p .n) key (bootstrapped p bsk ksk src) ≡ (bitWord (sideOf p key src) + gateWord p key z ksk bsk src) % Q
-  unfolding bootstrapped gateWord
-  gate-side src =
-      switching-phase p r z (rotatedSample p bsk src) key ksk
-      ∙ ap (λ (t : ℕ). (t + switchingDrift p key z ksk (rotatedSample p bsk src)) % Q) (extracted-side src)
-      ∙ together (bitWord (sideOf p key src)) (extractedWord p key z bsk src) (switchingDrift p key z ksk (rotatedSample p bsk src))
+  unfolding bootstrapped rotatedSample gateWord
+  gate-side src = rotated-front (testPair p) refl src ∙ ap (λ (t : ℕ). (t + rotatedWord p key z ksk bsk (testPair p) src) % Q) (side-front p key src)
 
   -- `mux`
   pub mux-side : (a b c : List ℕ) → let s1 = summed p And a b in
@@ -92,4 +102,4 @@ module _ (p : Params) (r : InRange p) (key z : List ℕ) (binary-key : binary ke
       switching-phase p r z (muxSum p u v) key ksk
       ∙ ap (λ (t : ℕ). (t + switchingDrift p key z ksk (muxSum p u v)) % Q)
       (mux-phase p z u v ∙ ap₂ (λ (s t : ℕ). ((s + t) % Q + eighth) % Q) (extracted-side s1) (extracted-side s2))
-      ∙ join (bitWord (sideOf p key s1)) (bitWord (sideOf p key s2)) (extractedWord p key z bsk s1) (extractedWord p key z bsk s2) (switchingDrift p key z ksk (muxSum p u v)) eighth
+      ∙ join (bitWord (sideOf p key s1)) (bitWord (sideOf p key s2)) (extractedWord p key z bsk (testPair p) s1) (extractedWord p key z bsk (testPair p) s2) (switchingDrift p key z ksk (muxSum p u v)) eighth

@@ -18,12 +18,14 @@ use Rattle.gate_sums.specs.Kind.{rowOf, sign}
 use Rattle.gate_sums.specs.Weights.{weightsOf}
 use Rattle.gate_sums.specs.Sum.{muxSum}
 use Rattle.drift.specs.Polynomials.{centred}
-use Rattle.drift.specs.Whole.{inside, freshDrift, broughtIn, extractedDrift, gateDrift, muxDrift}
-use Rattle.drift.specs.PrivateWords.{remainderWord, selectedWord, roundingWord, broughtWord, extractedWord, gateWord, muxWord, freshWord}
+use Rattle.drift.specs.Whole.{inside, freshDrift, broughtIn, rotatedDrift, gateDrift, muxDrift}
+use Rattle.drift.specs.PrivateWords.{broughtWord, rotatedWord, gateWord, muxWord, freshWord}
 use Rattle.drift.proofs.Residues.{Is, is-pos, is-add, is-times, is-neg, is-minus, is-same, is-word, is-only, is-centre, is-centred, is-phase, word-below}
-use Rattle.drift.proofs.Parts.{is-remainder, is-selected, is-extracted, is-switched}
+use Rattle.drift.proofs.Parts.{is-rounding, is-extracted, is-switched}
 use Rattle.drift.proofs.Phases.{key-bit}
-use Rattle.samples.specs.Sample.{rotatedSample}
+use Rattle.samples.specs.Sample.{sampleFrom, rotatedSample}
+use Rattle.key.specs.Testvec.{testPair}
+use Rattle.ring.specs.Pair.{Pair}
 use Rattle.drift_size.specs.Size.{insideWord}
 
 -- ---- words and centred numbers
@@ -58,32 +60,27 @@ pub fresh-word : (p : Params) (key c : List ℕ) (bit : Bool) → wordOf (freshD
 unfolding freshDrift freshWord
 fresh-word p key c bit = is-only (is-centred (is-minus (is-phase (p .n) key c) (is-bit bit)))
 
--- what rounding brings in, taken as one part
-as-one : (x s t : ℕ) → (x + s + t) % Q ≡ (x + (s + t) % Q) % Q
-unfolding Q
-as-one x s t = omega arith
-
 pub brought-word : (p : Params) (kind : Kind) (key src : List ℕ) (da db : ℤ) → wordOf (broughtIn p kind key src da db) ≡ broughtWord p kind key src (wordOf da) (wordOf db)
-unfolding broughtIn broughtWord roundingWord weightsOf
+unfolding broughtIn broughtWord weightsOf
 brought-word p kind key src da db =
-    is-only (is-centred (is-minus (is-add (is-add (is-times (is-word (rowOf kind .a)) (is-word da)) (is-times (is-word (rowOf kind .b)) (is-word db))) (is-remainder p (at src (p .n)))) (is-selected p key src)))
-    ∙ as-one (wordOf (rowOf kind .a) * wordOf da + wordOf (rowOf kind .b) * wordOf db) (remainderWord p (at src (p .n))) (neg (selectedWord p key src))
+    is-only (is-centred (is-add (is-add (is-times (is-word (rowOf kind .a)) (is-word da)) (is-times (is-word (rowOf kind .b)) (is-word db))) (is-rounding p key src)))
 
 -- ---- the gates
 
 module _ (p : Params) (key z : List ℕ) (binary-key : binary key ≡ true) where
-  pub extracted-word : (bsk src : List ℕ) → wordOf (extractedDrift p key z bsk src) ≡ extractedWord p key z bsk src
-  unfolding extractedWord
-  extracted-word bsk src = is-only (is-extracted p z key (key-bit key binary-key) bsk src) ∙ mod-eq-of-lt (mod-lt _ Q-pos)
+  -- of any vector that is rotated
+  pub rotated-word : (ksk bsk : List ℕ) (v : Pair) (src : List ℕ) → wordOf (rotatedDrift p key z ksk bsk v src) ≡ rotatedWord p key z ksk bsk v src
+  unfolding rotatedDrift rotatedWord
+  rotated-word ksk bsk v src = is-only (is-centred (is-add (is-extracted p z key (key-bit key binary-key) bsk v src) (is-switched p key z ksk (sampleFrom p v bsk src))))
 
   pub gate-word : (ksk bsk src : List ℕ) → wordOf (gateDrift p key z ksk bsk src) ≡ gateWord p key z ksk bsk src
   unfolding gateDrift gateWord
-  gate-word ksk bsk src = is-only (is-centred (is-add (is-extracted p z key (key-bit key binary-key) bsk src) (is-switched p key z ksk (rotatedSample p bsk src))))
+  gate-word ksk bsk src = rotated-word ksk bsk (testPair p) src
 
   pub mux-word : (ksk bsk src src2 : List ℕ) → wordOf (muxDrift p key z ksk bsk src src2) ≡ muxWord p key z ksk bsk src src2
   unfolding muxDrift muxWord
   mux-word ksk bsk src src2 =
-      let e = is-extracted p z key (key-bit key binary-key) bsk in
+      let e = is-extracted p z key (key-bit key binary-key) bsk (testPair p) in
       is-only (is-centred (is-add (is-add (e src) (e src2)) (is-switched p key z ksk (muxSum p (rotatedSample p bsk src) (rotatedSample p bsk src2)))))
 
 -- ---- the theorem
@@ -107,7 +104,7 @@ pub record Sufficient (p : Params) (key z ksk bsk : List ℕ) : Type 0 where
   pub of-negated : (d : ℤ) → Reckoned (centred (negℤ d)) (neg (wordOf d) % Q)
 
 pub words-suffice : (p : Params) (key z : List ℕ) → binary key ≡ true → (ksk bsk : List ℕ) → Sufficient p key z ksk bsk
-unfolding freshDrift broughtIn gateDrift muxDrift
+unfolding freshDrift broughtIn gateDrift rotatedDrift muxDrift
 words-suffice p key z binary-key ksk bsk = record {
   of-fresh = λ c bit. reckoned _ _ (centred-back _) (fresh-word p key c bit);
   of-brought = λ kind src da db. reckoned _ _ (centred-back _) (brought-word p kind key src da db);

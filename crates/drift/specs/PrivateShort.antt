@@ -5,7 +5,7 @@ use mathlib.Core.List.{List, [], _∷_, _++_}
 use Prim.Native.Nat.{ℕ, zero, suc, _+_, _%_}
 use lib.Dec.{ltb}
 use Rattle.ring.specs.Word.{Q, at, neg, eighth}
-use Rattle.ring.specs.Turn.{source}
+use Rattle.ring.specs.Turn.{source, negating}
 use Rattle.params.specs.declared.Params.{Params}
 use Rattle.params.specs.Sizes.{size}
 use Rattle.tlwe.specs.Plain.{bitWord}
@@ -19,10 +19,19 @@ use Rattle.ways.specs.Ways.{wayOf}
 use Rattle.ways.specs.Ciphers.{cipherAt}
 use Rattle.drift.specs.PrivateCircuit.{gateBroughtWords}
 use Rattle.ring.specs.Phase.{phaseOf}
+use Rattle.ring.specs.Pair.{Pair}
 
--- Does the rounded phase of the sum src, in steps modulo 2N, fall below N? It is the place that the turns bring to the front.
+-- The place, below 2N, that all turns of a rotation by src bring to the front: the rounded phase of src, in steps (01, trgsw: 'Rounding').
+abbrev pub placeOf : Params → List ℕ → List ℕ → ℕ
+placeOf p key src = source (size p) (turnTo p key src (p .n)) 0
+
+-- Does it fall below N?
 unfoldable pub sideOf : Params → List ℕ → List ℕ → Bool
-sideOf p key src = ltb (source (size p) (turnTo p key src (p .n)) 0) (size p)
+sideOf p key src = ltb (placeOf p key src) (size p)
+
+-- The coefficient of v's b that the turns of a rotation by src bring to the front, with true negation: what the extracted sample carries.
+unfoldable pub frontWord : Params → Pair → List ℕ → List ℕ → ℕ
+frontWord p v key src = at (negating (size p) (turnTo p key src (p .n)) (v .b)) 0
 
 -- The word that the rotations of a way put into its ciphertext own, by their sides.
 unfoldable pub carriedWord : Params → List ℕ → Way → List ℕ → List ℕ → List ℕ → ℕ

@@ -1,6 +1,6 @@
 -- The drift of a gate (01, Drift), as words: what code and proofs reckon with. Every part is reckoned modulo 2^32, and a drift is centred at its end (`centre` of the ring);
 -- `words-suffice` (proofs/Suffice.antt) shows that each is the word of the whole number that specs/Whole.antt defines. key and z are the secret keys of level 0
--- and 1, bsk and ksk the bootstrapping and the switching key, whose rows may hold anything; src is a gate's sum before rotation. A reader of the public contracts can leave this file.
+-- and 1, bsk and ksk the bootstrapping and the switching key, whose rows may hold anything; src is the ciphertext that a vector v is rotated by. A reader of the public contracts can leave this file.
 use mathlib.Core.Bool.{Bool}
 use mathlib.Core.List.{List}
 use Prim.Native.Nat.{ℕ, _+_, _*_, _/_, _%_}
@@ -17,7 +17,8 @@ use Rattle.gate_sums.specs.declared.Kind.{Kind}
 use Rattle.gate_sums.specs.Weights.{weightsOf}
 use Rattle.gate_sums.specs.Sum.{muxSum}
 use Rattle.key.specs.Testvec.{testPair}
-use Rattle.samples.specs.Sample.{rotatedSample}
+use Rattle.samples.specs.Sample.{sampleFrom, rotatedSample}
+use Rattle.ring.specs.Pair.{Pair}
 
 -- ---- what is brought in
 
@@ -40,17 +41,21 @@ broughtWord p kind key src da db = (weightsOf kind .a * da + weightsOf kind .b *
 -- ---- extraction and switching
 
 -- Extraction at 0 of the tracked drift, a polynomial that `driftTo` of the rotation reckons step by step: coefficient 0, and the number of ones in z_1 .. z_(N-1).
-unfoldable pub extractedWord : Params → List ℕ → List ℕ → List ℕ → List ℕ → ℕ
-extractedWord p key z bsk src = (at (driftTo p key z bsk src (testPair p) (p .n)) 0 + after (size p) 0 z) % Q
+unfoldable pub extractedWord : Params → List ℕ → List ℕ → List ℕ → Pair → List ℕ → ℕ
+extractedWord p key z bsk v src = (at (driftTo p key z bsk src v (p .n)) 0 + after (size p) 0 z) % Q
 
--- The drift of a two-input gate: that of extraction and that of switching.
+-- The drift of v rotated by src, extracted and switched: that of extraction and that of switching.
+unfoldable pub rotatedWord : Params → List ℕ → List ℕ → List ℕ → List ℕ → Pair → List ℕ → ℕ
+rotatedWord p key z ksk bsk v src = (extractedWord p key z bsk v src + switchingDrift p key z ksk (sampleFrom p v bsk src)) % Q
+
+-- The drift of a two-input gate.
 unfoldable pub gateWord : Params → List ℕ → List ℕ → List ℕ → List ℕ → List ℕ → ℕ
-gateWord p key z ksk bsk src = (extractedWord p key z bsk src + switchingDrift p key z ksk (rotatedSample p bsk src)) % Q
+gateWord p key z ksk bsk src = rotatedWord p key z ksk bsk (testPair p) src
 
 -- The drift of `mux`, whose two sums are src and src2: both extracted drifts, then that of one switching.
 unfoldable pub muxWord : Params → List ℕ → List ℕ → List ℕ → List ℕ → List ℕ → List ℕ → ℕ
 muxWord p key z ksk bsk src src2 =
-    (extractedWord p key z bsk src + extractedWord p key z bsk src2
+    (extractedWord p key z bsk (testPair p) src + extractedWord p key z bsk (testPair p) src2
     + switchingDrift p key z ksk (muxSum p (rotatedSample p bsk src) (rotatedSample p bsk src2))) % Q
 
 -- The fresh drift of the ciphertext c of a bit: its phase less ±2^29.

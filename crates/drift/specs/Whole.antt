@@ -1,5 +1,6 @@
 -- The drift of a gate in whole numbers, sentence by sentence as document 01 has it (section 'Drift'). key and z are the secret keys of level 0 and 1, bsk and ksk the
--- bootstrapping and the switching key, whose rows may hold anything; src is a sum before rotation.
+-- bootstrapping and the switching key, whose rows may hold anything; src is the ciphertext that a vector v is rotated by: a gate's sum, v being the gates' vector, or a
+-- message's ciphertext, v being a table's (02, 2026-07).
 -- What it takes from the run itself (the accumulators `stepsTo`, the difference `stepMoved`, its low bits `lowPoly`, the low bits `dropped`, the count `after` of z's ones) are words and counts, read as they are.
 use mathlib.Core.Bool.{Bool, cond}
 use mathlib.Core.List.{List}
@@ -28,7 +29,7 @@ use Rattle.drift.specs.Polynomials.{centred, wholeSum, wholes, signeds, 
 use Rattle.ring.specs.Pair.{Pair}
 use Rattle.key.specs.Testvec.{testPair}
 use Rattle.key.specs.Bits.{bitRows}
-use Rattle.samples.specs.Sample.{rotatedSample}
+use Rattle.samples.specs.Sample.{sampleFrom, rotatedSample}
 
 -- 'Inside means absolute value below 2^29.'
 unfoldable pub inside : ℤ → Bool
@@ -58,10 +59,13 @@ switchingError p key z ksk i j k = centred (wholePhase (p .n) key (rowPart p ksk
 unfoldable pub remainder : Params → ℕ → ℤ
 remainder p x = pos ((x + half p) / step p * step p) -ℤ pos x
 
--- 'Brought in: operands' drifts by the sum's multiples, plus b's remainder, less the key-selected remainders.' It is centred at its end.
+-- What rounding brings in: '.. plus b's remainder, less the key-selected remainders.'
+unfoldable pub roundingDrift : Params → List ℕ → List ℕ → ℤ
+roundingDrift p key src = remainder p (at src (p .n)) -ℤ wholeSum (p .n) (λ i. wholes key i *ℤ remainder p (at src i))
+
+-- 'Brought in: operands' drifts by the sum's multiples, plus' what rounding brings in. It is centred at its end.
 unfoldable pub broughtIn : Params → Kind → List ℕ → List ℕ → ℤ → ℤ → ℤ
-broughtIn p kind key src da db =
-    centred (rowOf kind .a *ℤ da +ℤ rowOf kind .b *ℤ db +ℤ remainder p (at src (p .n)) -ℤ wholeSum (p .n) (λ i. wholes key i *ℤ remainder p (at src i)))
+broughtIn p kind key src da db = centred (rowOf kind .a *ℤ da +ℤ rowOf kind .b *ℤ db +ℤ roundingDrift p key src)
 
 -- ---- the rotation
 
@@ -82,17 +86,17 @@ stepDrift p z bsk i bit mask x e k =
     -ℤ wholePairPhase (size p) z (lowPoly p (stepMoved p mask x .a)) (lowPoly p (stepMoved p mask x .b)) k)
     +ℤ rowsDrift p z (bitRows p bsk i) bit (stepMoved p mask x) k
 
--- The drift of the accumulator after so many steps. 'Start: W·z - W for b's amount.'
-unfoldable pub rotationDrift : Params → List ℕ → List ℕ → List ℕ → List ℕ → ℕ → ℕ → ℤ
-rotationDrift p key z bsk src zero = complementsDrift p z (bodyAmount p (at src (p .n)))
-rotationDrift p key z bsk src (suc i) =
-    stepDrift p z bsk i (at key i) (at src i) (stepsTo p bsk src (startOf p (testPair p) (at src (p .n))) i) (rotationDrift p key z bsk src i)
+-- The drift of the accumulator after so many steps of the rotation of v. 'Start: W·z - W for b's amount.'
+unfoldable pub rotationDrift : Params → List ℕ → List ℕ → List ℕ → Pair → List ℕ → ℕ → ℕ → ℤ
+rotationDrift p key z bsk v src zero = complementsDrift p z (bodyAmount p (at src (p .n)))
+rotationDrift p key z bsk v src (suc i) =
+    stepDrift p z bsk i (at key i) (at src i) (stepsTo p bsk src (startOf p v (at src (p .n))) i) (rotationDrift p key z bsk v src i)
 
 -- ---- extraction, switching and the gates
 
 -- 'Extraction at 0: coefficient 0 plus the number of ones in z_1..z_(N-1).'
-unfoldable pub extractedDrift : Params → List ℕ → List ℕ → List ℕ → List ℕ → ℤ
-extractedDrift p key z bsk src = rotationDrift p key z bsk src (p .n) 0 +ℤ pos (after (size p) 0 z)
+unfoldable pub extractedDrift : Params → List ℕ → List ℕ → List ℕ → Pair → List ℕ → ℤ
+extractedDrift p key z bsk v src = rotationDrift p key z bsk v src (p .n) 0 +ℤ pos (after (size p) 0 z)
 
 -- 'Switching: less the errors of the rows used, less, for each 1 in z, (2^(31-BASEBIT·T) - the low bits dropped once that is added).' A field of 0 uses no row.
 unfoldable pub switchedDrift : Params → List ℕ → List ℕ → List ℕ → List ℕ → ℤ
@@ -100,12 +104,16 @@ switchedDrift p key z ksk sample =
     negℤ (wholeSum (size p) (λ i. wholeSum (p .t) (λ j. cond (eqb (maskField p sample i j) 0) (pos 0) (switchingError p key z ksk i j (maskField p sample i j)))))
     -ℤ wholeSum (size p) (λ i. wholes z i *ℤ (pos (rounding p) -ℤ pos (dropped p (at sample i))))
 
--- The drift of a two-input gate, 'centred at its end'.
+-- The drift of v rotated by src, extracted at 0 and switched, 'centred at its end'.
+unfoldable pub rotatedDrift : Params → List ℕ → List ℕ → List ℕ → List ℕ → Pair → List ℕ → ℤ
+rotatedDrift p key z ksk bsk v src = centred (extractedDrift p key z bsk v src +ℤ switchedDrift p key z ksk (sampleFrom p v bsk src))
+
+-- The drift of a two-input gate: the gates' vector is rotated.
 unfoldable pub gateDrift : Params → List ℕ → List ℕ → List ℕ → List ℕ → List ℕ → ℤ
-gateDrift p key z ksk bsk src = centred (extractedDrift p key z bsk src +ℤ switchedDrift p key z ksk (rotatedSample p bsk src))
+gateDrift p key z ksk bsk src = rotatedDrift p key z ksk bsk (testPair p) src
 
 -- 'mux adds both extracted drifts, then switches.' Its two sums are src and src2.
 unfoldable pub muxDrift : Params → List ℕ → List ℕ → List ℕ → List ℕ → List ℕ → List ℕ → ℤ
 muxDrift p key z ksk bsk src src2 =
-    centred (extractedDrift p key z bsk src +ℤ extractedDrift p key z bsk src2
+    centred (extractedDrift p key z bsk (testPair p) src +ℤ extractedDrift p key z bsk (testPair p) src2
     +ℤ switchedDrift p key z ksk (muxSum p (rotatedSample p bsk src) (rotatedSample p bsk src2)))

@@ -1,4 +1,4 @@
-pub mod Steps
+pub mod Turned
 pub mod Told
 pub mod Drifts
 pub mod Lent

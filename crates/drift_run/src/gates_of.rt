@@ -16,8 +16,8 @@ ghost use Rattle.drift_run.specs.Private.{Secret, Finished, Passing, Dri
 use crate::by_way::Drifted;
 use crate::by_way::both;
 use crate::by_way::way_drift;
-use crate::turns::bit_word;
-use crate::turns::phase;
+use crate::rotations::bit_word;
+use crate::rotations::phase;
 use drift_size::is_inside;
 use params::Params;
 use ways::ciphertext;

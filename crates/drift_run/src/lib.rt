@@ -20,7 +20,7 @@ use utils::Torus;
 mod answers;
 mod by_way;
 mod gates_of;
-mod turns;
+mod rotations;
 
 // What a drift run tells: whether all that demand 3 names are inside, false beside a refusal.
 pub struct RunTold {
@@ -64,7 +64,7 @@ pub fn fresh_drift(p: Params, key: &[u32], c: &[u32], bit: bool) -> FreshTold
     let value = phase.value;
     FreshTold {
         answer: said,
-        drift: Torus(ring::sub(value.0, turns::bit_word(bit))),
+        drift: Torus(ring::sub(value.0, rotations::bit_word(bit))),
     }
 }
 

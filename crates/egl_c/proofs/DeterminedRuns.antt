@@ -3,6 +3,10 @@
 use Rattle.ring.proofs.Outcomes.{Determined, said, said-written, said-written-twice, coincide, same-rest}
 use Rattle.egl_c.proofs.trgsw_c.egl_trgsw_blind_rotate_step as egl-trgsw-blind-rotate-step
 use Rattle.egl_c.proofs.trgsw_c.egl_trgsw_blind_rotate as egl-trgsw-blind-rotate
+use Rattle.egl_c.proofs.table_c.egl_trgsw_blind_rotate_with_testvec as egl-trgsw-blind-rotate-with-testvec
+use Rattle.egl_c.proofs.table_c.egl_table_testvec as egl-table-testvec
+use Rattle.egl_c.proofs.table_c.egl_lookup as egl-lookup
+use Rattle.egl_c.proofs.table_c.egl_lookup_drift as egl-lookup-drift
 use Rattle.egl_c.proofs.trgsw_c.egl_trgsw_encrypt_torus as egl-trgsw-encrypt-torus
 use Rattle.egl_c.proofs.trgsw_c.egl_trgsw_gen_bootstrapping_key as egl-trgsw-gen-bootstrapping-key
 use Rattle.egl_c.proofs.bristol_c.egl_bristol_import as egl-bristol-import
@@ -157,3 +161,18 @@ egl-drift-report-of-determined κs a x y v w = said-written 1
 
 pub egl-drift-report-merge-determined : Determined egl-drift-report-merge.ended egl-drift-report-merge.Reads.Learnt
 egl-drift-report-merge-determined κs a x y v w = said-written 2
+
+pub egl-trgsw-blind-rotate-with-testvec-determined : Determined egl-trgsw-blind-rotate-with-testvec.ended egl-trgsw-blind-rotate-with-testvec.Reads.Learnt
+egl-trgsw-blind-rotate-with-testvec-determined κs a x y v w = said-written-twice 10
+
+pub egl-table-testvec-determined : Determined egl-table-testvec.ended egl-table-testvec.Reads.Learnt
+egl-table-testvec-determined κs a x y v w = said-written-twice 8
+
+pub egl-lookup-determined : Determined egl-lookup.ended egl-lookup.Reads.Learnt
+egl-lookup-determined κs a x y v w = said-written 11
+
+pub egl-lookup-drift-determined : Determined egl-lookup-drift.ended egl-lookup-drift.Reads.Learnt
+egl-lookup-drift-determined κs a x y v w p q =
+    let written = coincide (p .1 .0) (q .1 .0) in
+    let drifted = coincide (p .1 .1 .0) (q .1 .1 .0) in
+    (coincide (p .0) (q .0), same-rest 15 (λ i. (written i, (drifted i, tt))))

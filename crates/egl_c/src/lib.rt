@@ -9,6 +9,7 @@ pub mod gates_c;
 pub mod key_c;
 pub mod params_c;
 pub mod product_c;
+pub mod table_c;
 pub mod tlwe_c;
 pub mod tlwe_decryption_c;
 pub mod tlwe_encryption_c;

@@ -7,5 +7,5 @@ ghost use Rattle.packing.specs.Packed.{interfaceVersion};
 pub extern "C" fn egl_version() -> u32
     ensures { λ r. ⌜ r ≡ interfaceVersion ⌝ }
 {
-    6
+    7
 }

@@ -28,4 +28,4 @@ packedText number place length = packedTold (record { number = number; place = c
 
 -- The version of the interface: one more with each release in which a function of it is added, taken away or changed.
 abbrev pub interfaceVersion : ℕ
-interfaceVersion = 6
+interfaceVersion = 7

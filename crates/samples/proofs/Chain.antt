@@ -25,24 +25,38 @@ use Rattle.blind_rotation.proofs.Checks.{blind-done}
 use Rattle.gate_sums.specs.declared.Kind.{Kind}
 use Rattle.gate_sums.specs.Sum.{summed}
 use Rattle.gate_sums.proofs.Sums.{summed-length}
-use Rattle.samples.specs.Sample.{rotatedSample}
+use Rattle.samples.specs.Sample.{sampleFrom, rotatedSample}
 use Rattle.key.specs.Testvec.{testPair}
 
-module _ (p : Params) (bsk src : List ℕ) where
+module _ (p : Params) (bsk src : List ℕ) (v : Pair) where
   -- the rotated pair has N words each
-  steps-lengths : (i : ℕ) → let x = stepsTo p bsk src (startOf p (testPair p) (at src (p .n))) i in (length (x .a) ≡ size p) × (length (x .b) ≡ size p)
+  steps-lengths : (i : ℕ) → let x = stepsTo p bsk src (startOf p v (at src (p .n))) i in (length (x .a) ≡ size p) × (length (x .b) ≡ size p)
   unfolding stepsTo startOf turned rotated blindStep cmuxOf plus
   steps-lengths zero = (length-tab (size p) _, length-tab (size p) _)
   steps-lengths (suc i) = (length-tab (size p) _, length-tab (size p) _)
 
-  rotated-lengths : (length (blindRotated p bsk src (testPair p) .a) ≡ size p) × (length (blindRotated p bsk src (testPair p) .b) ≡ size p)
+  pub rotated-lengths : (length (blindRotated p bsk src v .a) ≡ size p) × (length (blindRotated p bsk src v .b) ≡ size p)
   unfolding blindRotated
   rotated-lengths = steps-lengths (p .n)
 
   -- and the extracted sample N + 1
-  pub sample-length : length (rotatedSample p bsk src) ≡ size p + 1
-  unfolding rotatedSample extract
-  sample-length = length-append (tab (size p) _) (at (blindRotated p bsk src (testPair p) .b) 0 ∷ []) ∙ ap (λ (n : ℕ). n + 1) (length-tab (size p) _)
+  pub from-length : length (sampleFrom p v bsk src) ≡ size p + 1
+  unfolding sampleFrom extract
+  from-length = length-append (tab (size p) _) (at (blindRotated p bsk src v .b) 0 ∷ []) ∙ ap (λ (n : ℕ). n + 1) (length-tab (size p) _)
+
+-- a gate's
+pub sample-length : (p : Params) (bsk src : List ℕ) → length (rotatedSample p bsk src) ≡ size p + 1
+unfolding rotatedSample
+sample-length p bsk src = from-length p bsk src (testPair p)
+
+-- a pair of N words each, extracted at 0 by a call
+pub extracted-to : (p : Params) → paramsNumber p ≡ 0 → (bsk src oo : List ℕ) (v : Pair) {ra rb out : List ℕ} → length oo ≡ size p + 1
+    → ra ≡ blindRotated p bsk src v .a → rb ≡ blindRotated p bsk src v .b → out ≡ extractOut p ra rb 0 oo → out ≡ sampleFrom p v bsk src
+unfolding sampleFrom
+extracted-to p e bsk src oo v lo ea eb eo =
+    let l = rotated-lengths p bsk src v in
+    eo ∙ ap₂ (λ (x y : List ℕ). extractOut p x y 0 oo) ea eb
+    ∙ sample-extract-index-done p (in-range p e) (blindRotated p bsk src v .a) (blindRotated p bsk src v .b) 0 oo (l .0) (l .1) lo (size-from p)
 
 -- ---- links
 
@@ -62,6 +76,4 @@ module _ (p : Params) (e : paramsNumber p ≡ 0) (bsk : List ℕ) (lk : length b
       let s = summed p kind a b in
       let o : Pair = record { a = oa; b = ob } in
       let t = ap (λ (x : List ℕ). blindOut p x bsk o) es ∙ turned-to s o (summed-length p kind a b) la lb in
-      let l = rotated-lengths p bsk s in
-      eo ∙ ap₂ (λ (x y : List ℕ). extractOut p x y 0 oo) (ea ∙ ap (λ (x : Pair). x .a) t) (eb ∙ ap (λ (x : Pair). x .b) t)
-      ∙ sample-extract-index-done p (in-range p e) (blindRotated p bsk s (testPair p) .a) (blindRotated p bsk s (testPair p) .b) 0 oo (l .0) (l .1) lo (size-from p)
+      extracted-to p e bsk s oo (testPair p) lo (ea ∙ ap (λ (x : Pair). x .a) t) (eb ∙ ap (λ (x : Pair). x .b) t) eo

@@ -142,7 +142,10 @@ pub mod params;
 pub mod product;
 #[cfg(group_rotation)]
 pub mod rotation;
-#[cfg(group_tlwe)]
+#[cfg(group_tables)]
+pub mod tables;
+// what a lookup gives is decrypted
+#[cfg(any(group_tlwe, group_tables))]
 pub mod tlwe;
 #[cfg(group_trgsw)]
 pub mod trgsw;

@@ -26,7 +26,7 @@ pub fn run(set: &Set, tally: &mut Tally) {
     lengths(set, &mut source, tally);
     of_the_original(set, &mut source, tally);
     for _ in 0..SETS {
-        let set = Set { name: "random", p: random(&mut source), original: None };
+        let set = Set { name: "random", p: random(&mut source), original: None, groups: &[] };
         for name in ["key_gen_key_switching_key", "key_drop_idle_rows"] {
             let args = draw::good(&mut source, routine(name), &set.p);
             tally.check(routine(name), &set, &set.p, args);

@@ -33,6 +33,14 @@ pub mod params;
 pub mod product;
 #[cfg(group_rotation)]
 pub mod rotation;
+#[cfg(group_tables)]
+pub mod tables;
+#[cfg(group_tables)]
+mod tables_messages;
+#[cfg(group_tables)]
+mod tables_original;
+#[cfg(group_tables)]
+mod tables_refusals;
 #[cfg(group_tlwe)]
 pub mod tlwe;
 #[cfg(group_trgsw)]
@@ -101,6 +109,8 @@ pub fn groups() -> Vec<Group> {
         Group { name: "drift", run: Run::EachSet(drift::run), routines: &[] },
         #[cfg(group_drift_report)]
         Group { name: "drift_report", run: Run::Once(drift_report::run), routines: &[] },
+        #[cfg(group_tables)]
+        Group { name: "tables", run: Run::EachSet(tables::run), routines: &tables::ROUTINES },
     ]
 }
 

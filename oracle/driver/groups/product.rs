@@ -36,7 +36,7 @@ pub static ROUTINES: [Routine; 2] = [
 pub fn run(_sets: &[Set], tally: &mut Tally) {
     for nbit in 1..=10 {
         let p = [1 + nbit * 109, nbit, 1 + nbit, 2, 2, 9];
-        let set = Set { name: "ring", p, original: None };
+        let set = Set { name: "ring", p, original: None, groups: &[] };
         let n = 1usize << nbit;
         let mut source = Source::new(crate::SEED, &format!("product {nbit}"));
         for r in &ROUTINES {

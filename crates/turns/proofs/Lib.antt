@@ -1,0 +1,5 @@
+pub mod Steps
+pub mod Words
+pub mod Determined
+pub mod Contracts
+pub mod Examples
