@@ -140,6 +140,12 @@ def test_vector(p):
 rotated_sums = []  # what was rotated so far, in order
 
 
+def table_vector(n, f, half=None, turned=negative):
+    """02, 2026-07: coefficient i of a table's vector takes f at (i·M + N/2) div N, and f(0) negated where that is M."""
+    m, half = len(f), n // 2 if half is None else half
+    return [turned(f[0]) if (i * m + half) // n == m else f[(i * m + half) // n] for i in range(n)]
+
+
 def blind_rotated(p, bsk, src, steps=None):
     rotated_sums.append(src)
     pair = [rotated(half, body_amount(p, src[p.n])) for half in test_vector(p)]

@@ -3,8 +3,8 @@
 import sys
 
 sys.dont_write_bytecode = True
-from model import (EIGHTH, Q, SET_128, Params, body_amount, bootstrapping_key, centred, decrypted, digits, document01, eighths, encrypted,
-                   extracted, gate, mux, negative, offset, phase, place, remainder, rotated, rotated_sums, size, step, switched, switching_key, test_vector, word, words)
+from model import (EIGHTH, Q, SET_128, Params, body_amount, bootstrapping_key, centred, complement, decrypted, digits, document01, eighths, encrypted,
+                   extracted, gate, mux, negative, offset, phase, place, remainder, rotated, rotated_sums, size, step, switched, switching_key, table_vector, test_vector, word, words)
 
 PAIRS = [(0, 0), (1, 0), (0, 1), (1, 1)]
 SMALL = Params(n=2, nbit=3, bgbit=8, l=2, basebit=2, t=5)
@@ -241,6 +241,26 @@ def remainder_after_wrap():
     print('NBIT 3, the remainder of the word 0xF8000000')
     beside(*('%d' % remainder(SMALL, 0xF8000000, wraps) for wraps in (False, True)))
     print('  modulo 2^32 both are 0x%X, so that no drift shows it' % (remainder(SMALL, 0xF8000000) % Q))
+
+
+def front(vector, place):
+    """What a rotation brings to the front from a place below 2N, with true negation."""
+    return vector[place] if place < len(vector) else negative(vector[place - len(vector)])
+
+
+def table_vectors(right, wrong):
+    print('N 8, the table 3, 5: its vector, and what messages 0 and 1 bring to the front one step low, exact, and one step high')
+    beside(*('%s   %s' % (' '.join(str(centred(x)) for x in v), ', '.join(' '.join(str(centred(front(v, place % 16))) for place in (at - 1, at, at + 1)) for at in (0, 4))) for v in (right, wrong)))
+
+
+@slip('table-complements')
+def table_complements():
+    table_vectors(table_vector(8, [3, 5]), table_vector(8, [3, 5], turned=complement))
+
+
+@slip('half-step')
+def half_step():
+    table_vectors(table_vector(8, [3, 5]), table_vector(8, [3, 5], half=0))
 
 
 if __name__ == '__main__':
