@@ -487,9 +487,10 @@ egl_answer egl_lookup(EGL_PARAMS, uint64_t modulus, const uint32_t *table, size_
  * signed (int32_t), gets the brought-in drift and then the output's. The value is 1 where the first is strictly inside 2^31 / (2M) and the second strictly inside 2^31 / (2 * results),
  * else 0. results is the modulus by which the result is judged: that of its messages, 2 for bits.
  *
- * Where the value is 1, the phase of out is f(value mod M) plus the output's drift modulo 2^32, and where f(value mod M) is the word of a message of modulus results, out decrypts to that
- * message: whatever the key material and the ciphertext hold. The output's drift is then the own drift of the message in a next table of modulus results, and of a bit for gates it is what
- * egl_fresh_drift gives. Refusals 1, 2, 4 for key and z, 5 also where results is not 2, 4, 8, 16, 32 or 64. */
+ * The output's drift is reckoned from what the rotation brings to the front. Where the brought-in drift is strictly inside 2^31 / (2M), that is f(value mod M): the phase of out is
+ * f(value mod M) plus the output's drift modulo 2^32, whatever the key material and the ciphertext hold. Where the value is 1 and f(value mod M) is the word of a message of modulus
+ * results, or of a bit (2^29, 2^32 - 2^29), out decrypts to that message or bit. The output's drift is then the own drift of the message in a next table of modulus results, and of a bit
+ * for gates it is what egl_fresh_drift gives. Refusals 1, 2, 4 for key and z, 5 also where results is not 2, 4, 8, 16, 32 or 64. */
 #define EGL_LOOKUP_DRIFTS 2
 egl_answer egl_lookup_drift(EGL_PARAMS, uint64_t modulus, const uint32_t *table, size_t table_len, uint64_t results, uint64_t value, const uint32_t *ksk, size_t ksk_len, const uint32_t *bsk, size_t bsk_len, const uint32_t *key, size_t key_len, const uint32_t *z, size_t z_len, const uint32_t *c, size_t c_len, uint32_t *out, size_t out_len, uint32_t *drifts, size_t drifts_len);
 

@@ -8,9 +8,10 @@ use crate::{ffi, CloudKey, Refusal, Secrets, Table};
 pub struct LookupDrift {
     /// The brought-in drift: the message's own, its phase less its word, and what rounding adds.
     pub brought: i32,
-    /// The output's drift, which is the own drift of the message in the next table, and that of a bit in a gate.
+    /// The output's drift, reckoned from what the rotation brings to the front. Where the brought-in drift is inside its margin, that is the table's word, and this is the own drift of
+    /// the message in the next table, or of the bit in a gate.
     pub drift: i32,
-    /// Whether both are strictly inside their margins. Then the output's phase is the table's word plus the output's drift, and it decrypts to the message whose word that
+    /// Whether both are strictly inside their margins. Then the output's phase is the table's word plus the output's drift, and it decrypts to the message, or the bit, whose word that
     /// is: that is proved, for any key material and any ciphertext.
     pub inside: bool,
     /// The margin of the brought-in drift, 2^30 / modulus.

@@ -20,9 +20,12 @@ impl CloudKey<'_> {
     /// # }
     /// ```
     ///
-    /// Refused with 5 for a modulus other than 2, 4, 8, 16, 32, 64, with 2 where a ciphertext has not n + 1 words.
+    /// Refused with 2 where a ciphertext has not n + 1 words, then with 5 for a modulus other than 2, 4, 8, 16, 32, 64.
     pub fn evaluate_sum(&self, modulus: u64, plain: u64, terms: &[(i32, &[u32])]) -> Result<Vec<u32>, Refusal> {
         let mut sum = vec![0; self.lengths().ciphertext];
+        if terms.iter().any(|(_, ciphertext)| ciphertext.len() != sum.len()) {
+            return Err(Refusal::Length);
+        }
         let word = message_word(plain, modulus)?;
         // A plain message is a ciphertext without masks: every key decrypts it.
         if let Some(body) = sum.last_mut() {

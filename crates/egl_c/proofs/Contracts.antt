@@ -9,7 +9,9 @@ use contract.Lifetimes.{Lfts}
 use denote.Ref.{now}
 use denote.Triple.Entry.{Args, Res}
 use denote.Triple.Clauses.{Lasts, atExit}
-use Rattle.ring.specs.Word.{at}
+use Prim.Native.Nat.{_+_, _%_}
+use Rattle.ring.specs.Word.{Q, at}
+use Rattle.ring.specs.Phase.{phaseOf}
 use Rattle.ring.specs.Bit.{bitNumber}
 use Rattle.ring.specs.Centre.{wordOf}
 use Rattle.params.specs.Refusal.{answer, ifDone}
@@ -23,7 +25,7 @@ use Rattle.blind_rotation.specs.Refusals.{vectorNumber}
 use Rattle.blind_rotation.proofs.Steps.{pair}
 use Rattle.tables.specs.Table.{tablePair, lookedUp}
 use Rattle.tables.specs.Refusals.{tableNumber, lookupNumber as tableLookupNumber}
-use Rattle.table_drift.specs.Lookup.{messageBrought, lookupDrift, bothInside, Carries}
+use Rattle.table_drift.specs.Lookup.{messageBrought, lookupDrift, insideMargin, bothInside, Carries}
 use Rattle.table_drift.specs.Refusals.{lookupDriftNumber, toldInside, resultAfter, driftsAfter}
 use Rattle.drift_report.specs.Report.{emptyReport, reportOf}
 use Rattle.drift_report.specs.Merge.{merged}
@@ -117,6 +119,7 @@ pub egl-lookup-drift-tells : (κs : Lfts (egl-lookup-drift.ended .signature .lif
     let inside = ifDone number (bothInside p key z ksk bsk m f results value c) false in
     (x ≡ packedWith (answer number) (bitNumber inside)) × (v .1 .1 .1 .1 .1 .1 .1 .1 .1 .1 .1 .1 .1 .1 .1 .0 ≡ ifDone number (lookedUp p m f ksk bsk c) o)
     × (v .1 .1 .1 .1 .1 .1 .1 .1 .1 .1 .1 .1 .1 .1 .1 .1 .0 ≡ ifDone number (wordOf (messageBrought p key c value m) ∷ wordOf (lookupDrift p key z ksk bsk m f c) ∷ []) d)
+    × (number ≡ 0 → insideMargin m (messageBrought p key c value m) ≡ true → phaseOf (p .n) key (v .1 .1 .1 .1 .1 .1 .1 .1 .1 .1 .1 .1 .1 .1 .1 .0) ≡ (at f (value % m) + at (v .1 .1 .1 .1 .1 .1 .1 .1 .1 .1 .1 .1 .1 .1 .1 .1 .0) 1) % Q)
     × (inside ≡ true → Carries p key m f results value (v .1 .1 .1 .1 .1 .1 .1 .1 .1 .1 .1 .1 .1 .1 .1 .0) (at (v .1 .1 .1 .1 .1 .1 .1 .1 .1 .1 .1 .1 .1 .1 .1 .1 .0) 1))
 unfolding toldInside resultAfter driftsAfter
-egl-lookup-drift-tells κs a x v h = (h .0, h .1 .0, h .1 .1 .0, h .1 .1 .1)
+egl-lookup-drift-tells κs a x v h = (h .0, h .1 .0, h .1 .1 .0, h .1 .1 .1 .0, h .1 .1 .1 .1)

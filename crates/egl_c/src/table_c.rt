@@ -2,13 +2,15 @@
 ghost use mathlib.Core.Path.{_≡_};
 ghost use mathlib.Core.Bool.{true};
 ghost use lib.ListN.{length};
-ghost use Rattle.ring.specs.Word.{at};
+ghost use Prim.Native.Nat.{_+_, _%_};
+ghost use Rattle.ring.specs.Word.{Q, at};
+ghost use Rattle.ring.specs.Phase.{phaseOf};
 ghost use Rattle.ring.specs.Bit.{bitNumber};
 ghost use Rattle.params.specs.Refusal.{answer};
 ghost use Rattle.params.specs.Published.{numbers};
 ghost use Rattle.blind_rotation.specs.Refusals.{vectorNumber, vectorOut};
 ghost use Rattle.tables.specs.Refusals.{tableNumber, tableOut, lookupNumber, lookupOut};
-ghost use Rattle.table_drift.specs.Lookup.{Carries};
+ghost use Rattle.table_drift.specs.Lookup.{messageBrought, insideMargin, Carries};
 ghost use Rattle.table_drift.specs.Refusals.{lookupDriftNumber, toldInside, resultAfter, driftsAfter};
 ghost use Rattle.packing.specs.Packed.{packed, packedWith};
 use packing::bit_number;
@@ -122,6 +124,7 @@ pub extern "C" fn egl_lookup_drift(
     ensures said { λ r. ⌜ r ≡ packedWith (answer (lookupDriftNumber (numbers n nbit bgbit l basebit t) modulus (length (now (table .entry))) results (length (now (ksk .entry))) (length (now (bsk .entry))) (now (key .entry)) (now (z .entry)) (length (now (c .entry))) (length (now (out .entry))) (length (now (drifts .entry))))) (bitNumber (toldInside (numbers n nbit bgbit l basebit t) modulus (now (table .entry)) results value (now (ksk .entry)) (now (bsk .entry)) (now (key .entry)) (now (z .entry)) (now (c .entry)) (now (out .entry)) (now (drifts .entry)))) ⌝ }
     ensures written { λ r. ⌜ now (out .exit) ≡ resultAfter (numbers n nbit bgbit l basebit t) modulus (now (table .entry)) results (now (ksk .entry)) (now (bsk .entry)) (now (key .entry)) (now (z .entry)) (now (c .entry)) (now (out .entry)) (now (drifts .entry)) ⌝ }
     ensures drifted { λ r. ⌜ now (drifts .exit) ≡ driftsAfter (numbers n nbit bgbit l basebit t) modulus (now (table .entry)) results value (now (ksk .entry)) (now (bsk .entry)) (now (key .entry)) (now (z .entry)) (now (c .entry)) (now (out .entry)) (now (drifts .entry)) ⌝ }
+    ensures carried { λ r. ⌜ (lookupDriftNumber (numbers n nbit bgbit l basebit t) modulus (length (now (table .entry))) results (length (now (ksk .entry))) (length (now (bsk .entry))) (now (key .entry)) (now (z .entry)) (length (now (c .entry))) (length (now (out .entry))) (length (now (drifts .entry))) ≡ 0 → insideMargin modulus (messageBrought (numbers n nbit bgbit l basebit t) (now (key .entry)) (now (c .entry)) value modulus) ≡ true → phaseOf n (now (key .entry)) (now (out .exit)) ≡ (at (now (table .entry)) (value % modulus) + at (now (drifts .exit)) 1) % Q) ⌝ }
     ensures right { λ r. ⌜ (toldInside (numbers n nbit bgbit l basebit t) modulus (now (table .entry)) results value (now (ksk .entry)) (now (bsk .entry)) (now (key .entry)) (now (z .entry)) (now (c .entry)) (now (out .entry)) (now (drifts .entry)) ≡ true → Carries (numbers n nbit bgbit l basebit t) (now (key .entry)) modulus (now (table .entry)) results value (now (out .exit)) (at (now (drifts .exit)) 1)) ⌝ }
 {
     let told = table_drift::lookup_drift(

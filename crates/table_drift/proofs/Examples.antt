@@ -72,6 +72,13 @@ pub drift-values : (lookupDrift four (1 ∷ []) z (junk 48 11) (junk 32 7) 2 wor
 unfolding Q neg comp H centre sumTo tab plus minus before times total source rotated complemented extract after half step maskAmount bodyAmount offset fieldOf rowIndex rowPart digitOf digitPoly digitWeight pairDigit part rowA rowB external cmuxOf lowPoly turned bitRows blindStep stepsTo startOf blindRotated rounding rounded maskField dropped trivial sampleFrom tableWord centred wholeSum wholeTimes wholeTurn wholePhase wholePairPhase shouldCarry bootstrappingError switchingError complementsDrift rowsDrift stepDrift rotationDrift extractedDrift switchedDrift rotatedDrift lookupDrift
 drift-values = (refl, refl)
 
+-- both margins are asked: of the second ciphertext message 0 brings nothing in, and the result's drift, 327160420, is inside 2^29 and outside 2^28; as message 1 it brings in too much. Of the first, message 1 brings
+-- nothing in and the result's drift is outside 2^29
+pub told-values : (bothInside four (1 ∷ []) z (junk 48 11) (junk 32 7) 2 words 2 0 (0x2BADCAFE ∷ 0x1BADCAFE ∷ []) ≡ true) × (bothInside four (1 ∷ []) z (junk 48 11) (junk 32 7) 2 words 4 0 (0x2BADCAFE ∷ 0x1BADCAFE ∷ []) ≡ false)
+    × (bothInside four (1 ∷ []) z (junk 48 11) (junk 32 7) 2 words 2 1 (0x2BADCAFE ∷ 0x1BADCAFE ∷ []) ≡ false) × (bothInside four (1 ∷ []) z (junk 48 11) (junk 32 7) 2 words 2 1 c ≡ false)
+unfolding Q neg comp H centre sumTo tab plus minus before times total source rotated complemented extract after half step maskAmount bodyAmount offset fieldOf rowIndex rowPart digitOf digitPoly digitWeight pairDigit part rowA rowB external cmuxOf lowPoly turned bitRows blindStep stepsTo startOf blindRotated rounding rounded maskField dropped trivial sampleFrom tableWord centred wholeSum wholeTimes wholeTurn wholePhase wholePairPhase shouldCarry bootstrappingError switchingError complementsDrift rowsDrift stepDrift rotationDrift extractedDrift switchedDrift rotatedDrift lookupDrift remainder roundingDrift messageDrift messageBrought insideMargin bothInside
+told-values = (refl, refl, refl, refl)
+
 -- n 3, N 8, BGBIT 8, L 2, BASEBIT 2, T 3: a switching key of 288 words, a bootstrapping key of 192
 abbrev eight : Params
 eight = numbers 3 3 8 2 2 3
@@ -95,5 +102,7 @@ pub later-numbers : (lookupDriftNumber eight 3 3 3 288 192 (1 ∷ 2 ∷ 1 ∷ []
     × (lookupDriftNumber eight 2 2 4 288 192 (1 ∷ 2 ∷ 1 ∷ []) z8 4 4 3 ≡ 2) × (lookupDriftNumber eight 3 3 4 288 192 key3 z8 4 4 2 ≡ 5) × (lookupDriftNumber eight 8 8 4 288 192 key3 z8 4 4 2 ≡ 5)
     × (lookupDriftNumber eight 4 4 3 288 192 key3 z8 4 4 2 ≡ 5) × (lookupDriftNumber eight 4 4 64 288 192 key3 z8 4 4 2 ≡ 0) × (lookupDriftNumber eight 3 2 4 288 192 key3 z8 4 4 2 ≡ 2)
     × (lookupDriftNumber eight 3 3 3 288 192 key3 z8 5 4 2 ≡ 2) × (lookupDriftNumber eight 3 3 3 288 192 key3 z8 4 5 2 ≡ 2) × (lookupDriftNumber eight 3 3 3 288 192 key3 z8 4 4 3 ≡ 2)
+    × (lookupDriftNumber eight 2 2 4 288 192 (1 ∷ 2 ∷ 1 ∷ []) (0 ∷ z8) 4 4 2 ≡ 2) × (lookupDriftNumber eight 2 2 4 288 192 (1 ∷ 2 ∷ 1 ∷ []) z8 5 4 2 ≡ 2) × (lookupDriftNumber eight 2 2 4 288 192 (1 ∷ 2 ∷ 1 ∷ []) z8 4 3 2 ≡ 2)
+    × (lookupDriftNumber eight 2 2 4 287 192 (1 ∷ 2 ∷ 1 ∷ []) z8 4 4 2 ≡ 2) × (lookupDriftNumber eight 2 2 4 288 193 (1 ∷ 2 ∷ 1 ∷ []) z8 4 4 2 ≡ 2) × (lookupDriftNumber eight 2 1 4 288 192 (1 ∷ 2 ∷ 1 ∷ []) z8 4 4 2 ≡ 2)
 unfolding lookupDriftNumber paramsNumber binary isTable isModulus
-later-numbers = (refl, refl, refl, refl, refl, refl, refl, refl, refl, refl, refl)
+later-numbers = (refl, refl, refl, refl, refl, refl, refl, refl, refl, refl, refl, refl, refl, refl, refl, refl, refl)

@@ -32,8 +32,8 @@ use Rattle.blind_rotation.specs.Drift.{turnTo}
 use Rattle.tables.specs.Table.{isTable, tableWord, tablePair, lookedUp}
 use Rattle.tables.proofs.Entries.{table-modulus, table-halves, frontEntry, front-entry}
 use Rattle.drift.specs.Polynomials.{centred, wholePhase}
-use Rattle.drift.specs.Whole.{rotatedDrift, roundingDrift}
-use Rattle.drift.specs.PrivateWords.{roundingWord, rotatedWord}
+use Rattle.drift.specs.Whole.{freshDrift, roundingDrift, rotatedDrift}
+use Rattle.drift.specs.PrivateWords.{roundingWord, rotatedWord, freshWord}
 use Rattle.drift.specs.PrivateShort.{placeOf, frontWord}
 use Rattle.drift.proofs.Phases.{together}
 use Rattle.drift.proofs.Residues.{is-pos, is-add, is-minus, is-only, is-centred, is-phase, word-below}
@@ -41,7 +41,7 @@ use Rattle.drift.proofs.Parts.{is-rounding}
 use Rattle.drift.proofs.Round.{source-below, near, half-turn}
 use Rattle.drift.proofs.Short.{less}
 use Rattle.drift.proofs.Sides.{rotated-front}
-use Rattle.drift.proofs.Suffice.{centred-back, rotated-word}
+use Rattle.drift.proofs.Suffice.{centred-back, fresh-word, rotated-word}
 use Rattle.table_drift.specs.Lookup.{messageDrift, messageBrought, lookupDrift, insideMargin}
 use Rattle.table_drift.specs.Private.{frontAt, broughtShort, lookupShort, withinWord}
 use Rattle.table_drift.proofs.Margins.{half-steps, word-steps}
@@ -74,6 +74,10 @@ brought-back p key c v m = centred-back _
 pub lookup-back : (p : Params) (key z ksk bsk : List ℕ) (m : ℕ) (f c : List ℕ) → lookupDrift p key z ksk bsk m f c ≡ centre (wordOf (lookupDrift p key z ksk bsk m f c))
 unfolding lookupDrift rotatedDrift
 lookup-back p key z ksk bsk m f c = centred-back _
+
+fresh-is : (p : Params) (key c : List ℕ) (b : Bool) → wordOf (freshDrift p key c b) ≡ (phaseOf (p .n) key c + neg (bitWord b)) % Q
+unfolding freshWord
+fresh-is p key c b = fresh-word p key c b
 
 same-margin : {d e : ℤ} {n : ℕ} → d ≡ e → natAbs d < n → natAbs e < n
 same-margin q l = rw (sym q) l
@@ -185,4 +189,13 @@ module _ (p : Params) (r : InRange p) (key z : List ℕ) (binary-key : binary ke
         own-back p key (lookedUp p m f ksk bsk c) w results
         ∙ ap centre (own-word p key (lookedUp p m f ksk bsk c) w results
         ∙ less _ (messageWord w results) (wordOf (lookupDrift p key z ksk bsk m f c)) drift-below (carries ∙ ap (λ (x : ℕ). (x + wordOf (lookupDrift p key z ksk bsk m f c)) % Q) e))
+        ∙ sym (lookup-back p key z ksk bsk m f c)
+
+    -- and a gate can go on from it: as the bit b the result has the lookup's drift, which the gate's brought-in drift counts
+    pub chained-bit : (b : Bool) → at f (v % m) ≡ bitWord b → freshDrift p key (lookedUp p m f ksk bsk c) b ≡ lookupDrift p key z ksk bsk m f c
+    unfolding freshDrift
+    chained-bit b e =
+        centred-back _
+        ∙ ap centre (fresh-is p key (lookedUp p m f ksk bsk c) b
+        ∙ less _ (bitWord b) (wordOf (lookupDrift p key z ksk bsk m f c)) drift-below (carries ∙ ap (λ (x : ℕ). (x + wordOf (lookupDrift p key z ksk bsk m f c)) % Q) e))
         ∙ sym (lookup-back p key z ksk bsk m f c)

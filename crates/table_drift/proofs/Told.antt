@@ -3,11 +3,13 @@
 use mathlib.Core.Path.{_≡_, refl, sym, ap, ap₂, subst, _∙_}
 use mathlib.Core.Bool.{Bool, true, false, cond}
 use mathlib.Core.List.{List, [], _∷_}
-use Prim.Native.Nat.{ℕ, suc, _+_, _%_, _<_}
+use Prim.Native.Nat.{ℕ, suc, _+_, _*_, _/_, _^_, _%_, _<_, _≤_}
 use native.Mathlib.Omega.{arith}
+use borrow.Author.Tests.{ltb-true, lt-ltb}
+use lib.IntN.{ℤ, natAbs}
 use lib.ListN.{length, set}
 use Rattle.ring.specs.Word.{Q, at, neg}
-use Rattle.ring.specs.Centre.{wordOf}
+use Rattle.ring.specs.Centre.{H, wordOf}
 use Rattle.ring.specs.Phase.{phaseOf}
 use Rattle.params.specs.declared.Params.{Params}
 use Rattle.params.specs.Ranges.{InRange}
@@ -19,11 +21,9 @@ use Rattle.drift.specs.PrivateWords.{roundingWord}
 use Rattle.drift.specs.PrivateShort.{placeOf, frontWord}
 use Rattle.table_drift.specs.Lookup.{messageBrought, lookupDrift, insideMargin, bothInside, Carries}
 use Rattle.table_drift.specs.Private.{frontAt, broughtShort, lookupShort, withinWord, bothWithin}
-use Rattle.table_drift.proofs.Meaning.{margin-words, brought-word, brought-back, lookup-back, front-at, short-drift, carries, decrypts}
-
-both : (b c : Bool) → cond b c false ≡ true → (b ≡ true) × (c ≡ true)
-both true c e = (refl, e)
-both false c e = absurd (let z : _≡_ {A = ℕ} 0 1 = cc in let q : ⊥ = omega arith in q)
+use Rattle.drift.proofs.Phases.{both}
+use Rattle.table_drift.proofs.Margins.{margin-most}
+use Rattle.table_drift.proofs.Meaning.{margin-words, brought-word, brought-back, lookup-back, front-at, short-drift, carries, decrypts, decrypts-bit}
 
 -- two words written one after the other into a slice of two
 pub two-put : (d : List ℕ) (x y : ℕ) → length d ≡ 2 → set (set d 0 x) 1 y ≡ x ∷ y ∷ []
@@ -49,6 +49,14 @@ unfolding lookupShort
 drift-made p key ksk bsk m f c ep el ef ed =
     ed ∙ ap₂ (λ (x y : ℕ). (x + neg y) % Q) ep (ef ∙ ap (frontAt p (tablePair p m f)) el ∙ sym (front-at p (tablePair p m f) key c))
 
+-- no modulus has a wider margin than bits have
+wider : (m : ℕ) (d : ℤ) → modulusNumber m ≡ 0 → insideMargin m d ≡ true → insideMargin 2 d ≡ true
+unfolding insideMargin H
+wider m d t i =
+    let l : natAbs d < 2 ^ 31 / (2 * m) = ltb-true _ _ i in
+    let b : 2 ^ 31 / (2 * m) ≤ 2 ^ 29 = margin-most m t in
+    lt-ltb (natAbs d) (2 ^ 29) (omega arith)
+
 module _ (p : Params) (r : InRange p) (key z : List ℕ) (binary-key : binary key ≡ true) (ksk bsk : List ℕ) (m : ℕ) (f : List ℕ) (fits : isTable (size p) m ≡ true) (c : List ℕ) (body : at c (p .n) < Q) (v results : ℕ) where
   pub both-words : bothInside p key z ksk bsk m f results v c ≡ bothWithin m results (broughtShort p key c v m) (lookupShort p key ksk bsk m f c)
   unfolding bothInside bothWithin
@@ -67,4 +75,5 @@ module _ (p : Params) (r : InRange p) (key z : List ℕ) (binary-key : binary ke
       record {
         word = carries p r key z binary-key ksk bsk m f fits c body v (i .0);
         message = λ w q. decrypts p r key z binary-key ksk bsk m f fits c body v (i .0) results w t (i .1) q;
+        bit = λ b q. decrypts-bit p r key z binary-key ksk bsk m f fits c body v (i .0) b (wider results (lookupDrift p key z ksk bsk m f c) t (i .1)) q;
       }

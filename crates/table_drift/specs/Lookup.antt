@@ -10,8 +10,8 @@ use Rattle.ring.specs.Word.{Q, at}
 use Rattle.ring.specs.Centre.{H}
 use Rattle.ring.specs.Phase.{phaseOf}
 use Rattle.params.specs.declared.Params.{Params}
-use Rattle.tlwe.specs.Plain.{messageWord}
-use Rattle.tlwe.specs.Decrypt.{messageOf}
+use Rattle.tlwe.specs.Plain.{bitWord, messageWord}
+use Rattle.tlwe.specs.Decrypt.{bitOf, messageOf}
 use Rattle.tables.specs.Table.{tablePair}
 use Rattle.drift.specs.Polynomials.{centred, wholePhase}
 use Rattle.drift.specs.Whole.{roundingDrift, rotatedDrift}
@@ -41,7 +41,9 @@ unfoldable pub bothInside : Params → List ℕ → List ℕ → List ℕ → Li
 bothInside p key z ksk bsk m f results v c =
     cond (insideMargin m (messageBrought p key c v m)) (insideMargin results (lookupDrift p key z ksk bsk m f c)) false
 
--- The result out carries the table's word for the message v, read modulo m, with this drift; and where that word is a message's of the results' modulus, out decrypts to that message.
+-- The result out carries the table's word for the message v, read modulo m, with this drift; where that word is a message's of the results' modulus, out decrypts to that message, and where it is a bit's,
+-- to the bit.
 pub record Carries (p : Params) (key : List ℕ) (m : ℕ) (f : List ℕ) (results v : ℕ) (out : List ℕ) (drift : ℕ) : Type 0 where
   pub word : phaseOf (p .n) key out ≡ (at f (v % m) + drift) % Q
   pub message : (w : ℕ) → at f (v % m) ≡ messageWord w results → messageOf results (phaseOf (p .n) key out) ≡ w % results
+  pub bit : (b : Bool) → at f (v % m) ≡ bitWord b → bitOf (phaseOf (p .n) key out) ≡ b

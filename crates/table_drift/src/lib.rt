@@ -4,8 +4,10 @@ ghost use mathlib.Core.Bool.{true};
 ghost use mathlib.Core.Path.{_≡_};
 ghost use lib.ListN.{length};
 ghost use Rattle.params.specs.Refusal.{answer};
-ghost use Rattle.ring.specs.Word.{at};
-ghost use Rattle.table_drift.specs.Lookup.{Carries};
+ghost use Prim.Native.Nat.{_+_, _%_};
+ghost use Rattle.ring.specs.Word.{Q, at};
+ghost use Rattle.ring.specs.Phase.{phaseOf};
+ghost use Rattle.table_drift.specs.Lookup.{messageBrought, insideMargin, Carries};
 ghost use Rattle.table_drift.specs.Refusals.{lookupDriftNumber, toldInside, resultAfter, driftsAfter};
 use params::Answer;
 use params::Params;
@@ -50,7 +52,8 @@ fn lookup_drift_number(
 }
 
 // The lookup of the message value, whose ciphertext is c, into out, and into drifts what was brought into its rotation and the result's drift. results is the modulus of which the table's words are
-// messages. Refusals: 1, 2, 4, 5. Where it tells inside, the result carries the table's word for value modulo modulus, plus that drift, and decrypts to the message of results that the word is.
+// messages. Refusals: 1, 2, 4, 5. Where what is brought in is inside, the result carries the table's word for value modulo modulus, plus the drift told; where it tells
+// both inside, the result decrypts to the message of results, or to the bit, that the word is.
 pub fn lookup_drift(
     p: Params,
     modulus: u64,
@@ -69,6 +72,7 @@ pub fn lookup_drift(
     ensures told { λ r. ⌜ r .inside ≡ toldInside p modulus (now (table .entry)) results value (now (ksk .entry)) (now (bsk .entry)) (now (key .entry)) (now (z .entry)) (now (c .entry)) (now (out .entry)) (now (drifts .entry)) ⌝ }
     ensures written { λ r. ⌜ now (out .exit) ≡ resultAfter p modulus (now (table .entry)) results (now (ksk .entry)) (now (bsk .entry)) (now (key .entry)) (now (z .entry)) (now (c .entry)) (now (out .entry)) (now (drifts .entry)) ⌝ }
     ensures drifted { λ r. ⌜ now (drifts .exit) ≡ driftsAfter p modulus (now (table .entry)) results value (now (ksk .entry)) (now (bsk .entry)) (now (key .entry)) (now (z .entry)) (now (c .entry)) (now (out .entry)) (now (drifts .entry)) ⌝ }
+    ensures carried { λ r. ⌜ (r .answer .number ≡ 0 → insideMargin modulus (messageBrought p (now (key .entry)) (now (c .entry)) value modulus) ≡ true → phaseOf (p .n) (now (key .entry)) (now (out .exit)) ≡ (at (now (table .entry)) (value % modulus) + at (now (drifts .exit)) 1) % Q) ⌝ }
     ensures right { λ r. ⌜ (r .inside ≡ true → Carries p (now (key .entry)) modulus (now (table .entry)) results value (now (out .exit)) (at (now (drifts .exit)) 1)) ⌝ }
 {
     let number = lookup_drift_number(

@@ -3,15 +3,17 @@
 use mathlib.Core.Path.{_≡_, sym, ap, _∙_}
 use mathlib.Core.Bool.{true, false}
 use mathlib.Core.List.{List}
-use Prim.Native.Nat.{ℕ, _<_}
+use Prim.Native.Nat.{ℕ, _<_, _+_, _%_}
 use native.Mathlib.Omega.{arith}
 use lib.ListN.{length}
 use Rattle.ring.specs.Word.{Q, at}
+use Rattle.ring.specs.Phase.{phaseOf}
 use Rattle.params.specs.Refusal.{answer}
 use Rattle.params.proofs.Answers.{kept, done}
 use Rattle.params.proofs.Ranges.{in-range}
 use Rattle.table_drift.specs.Refusals.{toldInside, resultAfter, driftsAfter}
 use Rattle.table_drift.proofs.Checks.{lookup-drift-good}
+use Rattle.table_drift.proofs.Meaning.{carries}
 use Rattle.table_drift.proofs.Told.{carries-as, both-words, drift-words, inside-carries}
 use borrow.Author.Needs.{needs}
 use Rattle.table_drift.proofs.lookup_drift.Statement.{statement}
@@ -30,7 +32,7 @@ returns : tie.Need-returns
 unfolding toldInside resultAfter driftsAfter
 returns c =
     let e = c .before .lookup-drift-number .ensures in
-    (ap answer e, (kept _ _ _ (λ z. c .if1 .taken (e ∙ z)), (kept _ _ _ (λ z. c .if1 .taken (e ∙ z)), (kept _ _ _ (λ z. c .if1 .taken (e ∙ z)), λ h. absurd (never h)))))
+    (ap answer e, (kept _ _ _ (λ z. c .if1 .taken (e ∙ z)), (kept _ _ _ (λ z. c .if1 .taken (e ∙ z)), (kept _ _ _ (λ z. c .if1 .taken (e ∙ z)), (λ z i. absurd (c .if1 .taken z), λ h. absurd (never h))))))
 
 told-into-requires : tie.Need-told-into-requires
 told-into-requires c κs = let g = c .before .before .before .before .before .before .before .before .before .before .before .before .args in lookup-drift-good (g .p) _ _ _ _ _ _ (g .z .now) _ _ _ (sym (c .before .before .before .lookup-drift-number .ensures) ∙ c .before .before .if1 .left)
@@ -55,9 +57,14 @@ returns-2 c =
           done _ _ _ z0 (t .1 .0),
           (
             done _ _ _ z0 drifts,
-            λ h. carries-as (t .1 .0) (ap (λ (l : List ℕ). at l 1) drifts)
-                (inside-carries (g .p) r (g .key .now) (g .z .now) (k .bits) (g .ksk .now) (g .bsk .now) (g .modulus) (g .table .now) (k .table .fits) (g .c .now) b (g .value) (g .results) (k .outcome)
-                (both ∙ sym (t .0) ∙ h)),
+            (
+              λ z i. ap (phaseOf (g .p .n) (g .key .now)) (t .1 .0)
+                  ∙ carries (g .p) r (g .key .now) (g .z .now) (k .bits) (g .ksk .now) (g .bsk .now) (g .modulus) (g .table .now) (k .table .fits) (g .c .now) b (g .value) i
+                  ∙ sym (ap (λ (l : List ℕ). (at (g .table .now) (g .value % g .modulus) + at l 1) % Q) drifts),
+              λ h. carries-as (t .1 .0) (ap (λ (l : List ℕ). at l 1) drifts)
+                  (inside-carries (g .p) r (g .key .now) (g .z .now) (k .bits) (g .ksk .now) (g .bsk .now) (g .modulus) (g .table .now) (k .table .fits) (g .c .now) b (g .value) (g .results) (k .outcome)
+                  (both ∙ sym (t .0) ∙ h)),
+            ),
           ),
         ),
       ),
