@@ -110,7 +110,9 @@ fn sums_are_the_librarys() {
     let plain = view.evaluate_sum(16, 16 + 9, &[]).unwrap();
     assert_eq!(plain, [vec![0; MASKS], vec![message_word(9, 16).unwrap()]].concat());
     assert_eq!(view.evaluate_sum(16, 0, &[(1, &a), (1, &b[1..])]), Err(Refusal::Length));
-    assert_eq!(view.evaluate_sum(3, 0, &[(1, &a), (1, &b[1..])]), Err(Refusal::Modulus));
+    // 2 before 5, as in the library's calls.
+    assert_eq!(view.evaluate_sum(3, 0, &[(1, &a), (1, &b[1..])]), Err(Refusal::Length));
+    assert_eq!(view.evaluate_sum(3, 0, &[(1, &a), (1, &b)]), Err(Refusal::Modulus));
     assert_eq!(secret.message_drift(1, 3, &a), Err(Refusal::Modulus));
     assert_eq!(secret.message_drift(1, 16, &a[1..]), Err(Refusal::Length));
 }
