@@ -1,3 +1,4 @@
+#![tactic(auto)]
 // Words modulo 2^32, as functions: what the other crates reckon with. The rest of this crate is mathematics, in specs/ and proofs/.
 ghost use Rattle.std.specs.Prelude.{◌≡◌, ◌+◌, ◌*◌, ◌%◌, ◌^◌};
 ghost use Rattle.ring.specs.Word.{Q, neg, comp};
