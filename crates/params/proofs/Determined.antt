@@ -6,7 +6,7 @@ use Rattle.params.specs.contracts.number as number_c
 use Rattle.params.proofs.check as check
 use Rattle.params.specs.contracts.check as check_c
 use Rattle.params.proofs.sizes_of as sizes_of_call
-use Rattle.params.specs.contracts.sizes_of as sizes_of_call_c
+use Rattle.params.specs.contracts.sizes_of as sizes_of_c
 use Rattle.params.proofs.published.security_80_bit as security_80_bit
 use Rattle.params.specs.contracts.published.security_80_bit as security_80_bit_c
 use Rattle.params.proofs.published.security_110_bit as security_110_bit
@@ -36,7 +36,7 @@ number_determined κs a x y v w = said
 pub check_determined : Determined check_c.ended check.Reads.Learnt
 check_determined κs a x y v w = said
 
-pub sizes_of_determined : Determined sizes_of_call_c.ended sizes_of_call.Reads.Learnt
+pub sizes_of_determined : Determined sizes_of_c.ended sizes_of_call.Reads.Learnt
 sizes_of_determined κs a x y v w = said
 
 pub security_80_bit_determined : Determined security_80_bit_c.ended security_80_bit.Reads.Learnt

@@ -1,3 +1,4 @@
+#![tactic(auto)]
 // The parameters at run time (src/params.rs has them as constants), the answer of every routine, and the length of every lent slice.
 ghost use Rattle.std.specs.Prelude.{◌≡◌, ◌+◌, ◌-◌, ◌*◌, ◌≤◌, ◌<◌};
 ghost use Rattle.params.specs.Refusal.{answer};
@@ -8,7 +9,7 @@ ghost use Rattle.params.specs.Sizes.{sizes_of, sizes_in};
 pub mod published;
 
 // The six numbers, by value: the names of `TlweParams` and `TrgswParams`; t is IKS_T, and N is 2^nbit.
-#[derive(Drop)]
+#[derive(Clone, Copy)]
 pub struct Params {
     pub n: u32,
     pub nbit: u32,
@@ -19,14 +20,14 @@ pub struct Params {
 }
 
 // A refusal's number, 0 where the call did its work, and the place in a circuit that it speaks of, else 0.
-#[derive(Drop)]
+#[derive(Clone, Copy)]
 pub struct Answer {
     pub number: u32,
     pub place: u32,
 }
 
 // What a routine asks of the parameters first: the refusal, 0 or 1, and the lengths of the slices, 0 where refused.
-#[derive(Drop)]
+#[derive(Clone, Copy)]
 pub struct Sizes {
     pub number: u32,
     // n, the masks of a level-0 ciphertext, and N, those of a level-1 ciphertext and the words of a polynomial
