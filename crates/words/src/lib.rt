@@ -1,3 +1,4 @@
+#![tactic(auto)]
 // Loops over the words of a slice, for slices of any lengths.
 ghost use Rattle.std.specs.Prelude.{◌≡◌, ◌≤◌, length};
 ghost use Rattle.ring.specs.Sums.{tab};
