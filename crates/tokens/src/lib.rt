@@ -1,3 +1,4 @@
+#![tactic(auto)]
 // The tokens of a text, as the Bristol Fashion form has them (02, request 2026-02): where the next one begins and ends, its number, its name.
 mod backwards;
 
@@ -8,7 +9,7 @@ ghost use Rattle.tokens.specs.Private.{ended_at, word_at};
 pub use backwards::back;
 
 // The next token: its first byte's place, the place after its last byte, and its number, 2^32 where it is none.
-#[derive(Drop)]
+#[derive(Clone, Copy)]
 pub struct Token {
     pub start: usize,
     pub end: usize,
@@ -16,7 +17,7 @@ pub struct Token {
 }
 
 // A token read backwards: its first byte's place, and the place after the last byte of the token before it.
-#[derive(Drop)]
+#[derive(Clone, Copy)]
 pub struct Behind {
     pub start: usize,
     pub before: usize,
