@@ -4,14 +4,14 @@ use Rattle.ring.proofs.Outcomes.{Determined, said}
 use Rattle.kinds.proofs.operands as operands
 use Rattle.kinds.specs.contracts.operands as operands_c
 use Rattle.kinds.proofs.work_of as work_of_call
-use Rattle.kinds.specs.contracts.work_of as work_of_call_c
+use Rattle.kinds.specs.contracts.work_of as work_of_c
 use Rattle.kinds.proofs.meaning as meaning
 use Rattle.kinds.specs.contracts.meaning as meaning_c
 
 pub operands_determined : Determined operands_c.ended operands.Reads.Learnt
 operands_determined κs a x y v w = said
 
-pub work_of_determined : Determined work_of_call_c.ended work_of_call.Reads.Learnt
+pub work_of_determined : Determined work_of_c.ended work_of_call.Reads.Learnt
 work_of_determined κs a x y v w p q = said p.0 q.0
 
 pub meaning_determined : Determined meaning_c.ended meaning.Reads.Learnt

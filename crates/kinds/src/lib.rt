@@ -1,3 +1,4 @@
+#![tactic(auto)]
 // The kinds of gates of a circuit (01, 'Circuits'): what specs/Kinds.antt gives of each.
 ghost use Rattle.std.specs.Prelude.{◌≡◌, ◌≤◌};
 ghost use Rattle.kinds.specs.Kinds.{kind_of, bit_meaning};
