@@ -1,3 +1,4 @@
+#![tactic(auto)]
 // How large a drift is (01, Drift): words read as signed, their absolute values, and whether they are inside. Below `drift_run`, a crate of its own for what its edit costs.
 ghost use Rattle.std.specs.Prelude.{◌≡◌};
 ghost use Rattle.drift_size.specs.Size.{magnitude, inside_word, worse_word};
