@@ -1,19 +1,19 @@
 -- Reading accepts the valid circuits and no others: the chain of checks is taken apart check by check, and the first refusal of a row of answers
 -- is none where none of them refuses. Back, each test is rewritten by its fact.
 -- Assumes nothing.
-use mathlib.Core.Path.{◌≡◌, refl, sym, ap, ◌∙◌}
+use mathlib.Core.Path.{◌≡◌, refl, ap, ◌∙◌}
 use mathlib.Core.Logic.{◌⊎◌, inl, inr, ⊎_elim}
 use mathlib.Core.Bool.{Bool, true, false}
 use mathlib.Core.List.{List, [], ◌∷◌}
-use Prim.Native.Nat.{ℕ, zero, suc, ◌+◌, ◌*◌, ◌≤◌, ◌<◌}
+use Prim.Native.Nat.{ℕ, zero, suc, ◌+◌, ◌≤◌, ◌<◌}
 use native.Mathlib.Decide.{ℕ_discrete}
 use native.Mathlib.Omega.{arith}
 use borrow.Author.Tests.{leb-true, ltb-true, ltb-false, eqb-true, le-leb, lt-ltb, le-ltb, eq-eqb, ne_eqb}
-use lib.Dec.{T, lit<, leb, ltb, eqb, ltb→lt}
+use lib.Dec.{T, lit<, ltb, ltb→lt}
 use lib.ListN.{length}
 use Rattle.ring.specs.Word.{at}
 use Rattle.params.specs.declared.Answer.{Answer}
-use Rattle.params.specs.Refusal.{answer, check}
+use Rattle.params.specs.Refusal.{answer}
 use Rattle.params.proofs.Answers.{passed}
 use Rattle.kinds.specs.Kinds.{kind_of}
 use Rattle.circuit.specs.Form.{version, inputs, gates, outputs, wires, gate_place, kind_at, operand_at, output_at, output_place, or_else, first, operand_good, output_answer, answer_of, gate_fields, head_fields, FieldCheck, asks, first_at}

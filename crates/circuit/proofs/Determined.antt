@@ -10,7 +10,7 @@ use Rattle.circuit.specs.contracts.fields.kind_at as kind_at_c
 use Rattle.circuit.proofs.fields.operand_at as Operand-at
 use Rattle.circuit.specs.contracts.fields.operand_at as Operand-at_c
 use Rattle.circuit.proofs.fields.output_at as output_at_call
-use Rattle.circuit.specs.contracts.fields.output_at as output_at_call_c
+use Rattle.circuit.specs.contracts.fields.output_at as output_at_c
 use Rattle.circuit.proofs.form.check as check
 use Rattle.circuit.specs.contracts.form.check as check_c
 use Rattle.circuit.proofs.plain.run_plain as run_plain
@@ -30,7 +30,7 @@ kind_at_determined κs a x y v w = said
 pub operand_at_determined : Determined Operand-at_c.ended Operand-at.Reads.Learnt
 operand_at_determined κs a x y v w = said
 
-pub output_at_determined : Determined output_at_call_c.ended output_at_call.Reads.Learnt
+pub output_at_determined : Determined output_at_c.ended output_at_call.Reads.Learnt
 output_at_determined κs a x y v w = said
 
 pub check_determined : Determined check_c.ended check.Reads.Learnt

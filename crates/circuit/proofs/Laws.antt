@@ -4,15 +4,15 @@
 -- Assumes nothing.
 use mathlib.Core.Path.{◌≡◌, refl, sym, ap, ◌∙◌}
 use mathlib.Core.Logic.{⊎_elim}
-use mathlib.Core.Bool.{Bool, true, false}
-use mathlib.Core.List.{List, []}
+use mathlib.Core.Bool.{Bool, true}
+use mathlib.Core.List.{List}
 use Prim.Native.Nat.{ℕ, zero, suc, ◌+◌, ◌*◌, ◌-◌, ◌≤◌, ◌<◌}
 use native.Mathlib.Nat.{eq-zero-or-pos}
 use native.Mathlib.Omega.{arith}
 use lib.Dec.{leb, leb→le, lit<, lit≤}
 use lib.ListN.{length, get_or}
 use Rattle.ring.specs.Word.{at}
-use Rattle.ring.specs.Sums.{sum_to, tab}
+use Rattle.ring.specs.Sums.{sum_to}
 use Rattle.ring.proofs.Tab.{at-tab, length-tab}
 use Rattle.params.specs.declared.Answer.{Answer}
 use Rattle.params.proofs.Answers.{when_done}

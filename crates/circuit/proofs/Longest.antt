@@ -5,18 +5,18 @@ use mathlib.Core.Path.{◌≡◌, refl, sym, ap, ◌∙◌}
 use mathlib.Core.Logic.{⊎_elim}
 use mathlib.Core.Bool.{Bool, true, false}
 use mathlib.Core.List.{List}
-use Prim.Native.Nat.{ℕ, suc, ◌+◌, ◌*◌, ◌≤◌, ◌<◌}
+use Prim.Native.Nat.{ℕ, ◌+◌, ◌*◌, ◌≤◌, ◌<◌}
 use native.Mathlib.Omega.{arith}
 use borrow.Author.Tests.{leb-true, le-leb, ne_eqb}
-use lib.Dec.{lit<, leb, eqb}
+use lib.Dec.{leb, eqb}
 use lib.ListN.{length, take}
 use lib.Seq.{length-take-le, take_all, get_or-take}
 use Rattle.ring.specs.Word.{at}
 use Rattle.params.specs.declared.Answer.{Answer}
 use Rattle.params.specs.Refusal.{answer}
-use Rattle.circuit.specs.Form.{field_at, version, inputs, gates, outputs, output_place, longest, or_else, answer_of, head_fields}
+use Rattle.circuit.specs.Form.{field_at, version, inputs, gates, outputs, output_place, longest, answer_of, head_fields}
 use Rattle.circuit.specs.Private.{check_at, head_answer}
-use Rattle.circuit.specs.Valid.{Head, Valid}
+use Rattle.circuit.specs.Valid.{Head}
 use Rattle.circuit.proofs.Accept.{lt_or_ge, head_good, accepted}
 
 pub not_longer : (bs : List ℕ) → Head bs → length bs ≤ longest

@@ -1,5 +1,5 @@
 -- The plain meaning of a circuit and its work (01, 'Circuits'; 02, 2026-03).
-use Rattle.std.specs.Prelude.{List, [], ◌∷◌, ◌++◌, ℕ, zero, suc, ◌+◌, eqb, length}
+use Rattle.std.specs.Prelude.{List, [], ◌∷◌, ◌++◌, ℕ, zero, suc, eqb, length}
 use Rattle.ring.specs.Word.{at}
 use Rattle.ring.specs.Sums.{sum_to, tab}
 use Rattle.params.specs.declared.Answer.{Answer}

@@ -1,3 +1,4 @@
+#![tactic(auto)]
 // Circuits (01, 'Circuits'): reading one, its work, and running it on plain bits.
 mod cost;
 mod fields;
@@ -12,14 +13,14 @@ pub use plain::run_plain;
 pub use words::tell;
 
 // The answer, and the work of the circuit, 0 where refused.
-#[derive(Drop)]
+#[derive(Clone, Copy)]
 pub struct Worked {
     pub answer: params::Answer,
     pub value: u32,
 }
 
 // What the head of a circuit's bytes holds after the mark.
-#[derive(Drop)]
+#[derive(Clone, Copy)]
 pub struct Shape {
     pub version: usize,
     pub inputs: usize,
