@@ -1,3 +1,4 @@
+#![tactic(auto)]
 // The refusal table's order, as code: a routine's number is a straight line of checks, each of which counts only while the number is 0.
 ghost use Rattle.std.specs.Prelude.{◌≡◌, eqb, leb, ltb};
 ghost use Rattle.refusals.specs.Table.{also};
