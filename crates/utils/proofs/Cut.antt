@@ -2,25 +2,40 @@
 -- Assumes nothing.
 use Rattle.std.proofs.Common.{◌≡◌, ℕ, ◌+◌, ◌-◌, ◌*◌, ◌/◌, ◌%◌, ◌^◌, ◌<◌, ◌≤◌, min, Bool, true, false, not, T, ℤ, pos, sym, refl, ap, ◌∙◌, subst, inl, inr, true≢false, le_of_eq, lt_of_lt_of_le, lt_irrefl, mod-lt, div-lt_iff_lt-mul, eq-zero-or-pos, lt_of_mul-lt-mul_right, mul-lt-mul_of_pos_right, mul-pos, zero-mul, mul_right_comm, arith, lit≤, ltb→lt, lt→ltb, nltb→le}
 use native.Mathlib.Nat.{div-eq_of_lt}
-use lib.Ieee.{Float, nan, inf, fin, binary64, up, down, rem, mul, neg, lt, ne, fits, to_unsigned}
+use lib.Ieee.{Float, nan, inf, fin, binary64, up, down, rem, add, sub, mul, neg, lt, ne, fits, is_nan, to_unsigned}
 use lib.Ieee.Fits.{down_pos}
 use lib.Ieee.Exact.{HasValue}
 use lib.Ieee.Nearest.{div_same}
 use lib.Ieee.Compare.{differs_from_itself}
+use Rattle.std.specs.Float.{fract, round_with, float_with_sign, is_sign_negative}
 use Rattle.ring.specs.Word.{Q, Q_pos}
 use Rattle.utils.specs.Torus.{word}
 use Rattle.utils.specs.Private.{IsFraction, IsScaledFraction}
-use Rattle.utils.proofs.Exact.{one, rem-one, mul-pow}
+use Rattle.utils.proofs.Exact.{one, rem-one, fract_signed, mul-pow}
 use Rattle.utils.proofs.Laws.{signed, signed-zero}
 
 abbrev pub zero_f : Float
 zero_f = fin false 0 (pos 0)
 
 -- ---- the two float operations of the code
+pub fract_is_fraction : (d r : Float) → is_nan d ≡ false → r ≡ float_with_sign (is_sign_negative d) (fract binary64 d) → T (fits binary64 d) → IsFraction d r
+unfolding is_nan is_sign_negative float_with_sign round_with sub add neg
+fract_is_fraction nan r n e F = absurd (true≢false n)
+fract_is_fraction (inf true) r n e F = e
+fract_is_fraction (inf false) r n e F = e
+fract_is_fraction (fin s m g) r n e F = subst (λ (x : Float). HasValue x s (m * up g % down g) (down g)) (sym e) (fract_signed binary64 s m g F)
+
+-- the remainder by 1 is the fraction too
 pub is_fraction : (d : Float) → T (fits binary64 d) → IsFraction d (rem binary64 d one)
 is_fraction nan F = unfold rem in refl
 is_fraction (inf s) F = unfold rem in refl
 is_fraction (fin s m e) F = rem-one binary64 s m e F
+
+pub no_fraction : (d : Float) → is_nan d ≡ true → IsFraction d d
+unfolding is_nan
+no_fraction nan n = refl
+no_fraction (inf s) n = absurd (true≢false (sym n))
+no_fraction (fin s m e) n = absurd (true≢false (sym n))
 
 pub is_scaled : (d x : Float) → T (fits binary64 x) → IsFraction d x → IsScaledFraction d (mul binary64 x (fin false 1 (pos 32)))
 unfolding Q

@@ -1,3 +1,4 @@
+#![tactic(auto)]
 // Doubles and the torus (src/utils.rs): words of 32 bits that count 2^-32 of a turn.
 ghost use Rattle.std.specs.Prelude.{◌≡◌, false, length};
 ghost use Rattle.std.specs.Float.Ieee.Exact.{HasValue};
@@ -9,19 +10,23 @@ ghost use Rattle.utils.specs.Private.{IsFraction, IsScaledFraction};
 use params::Answer;
 
 // A word: it counts 2^-32 of a turn (`Torus` of src/params.rs).
-#[derive(Drop)]
+#[derive(Clone, Copy)]
 pub struct Torus(pub u32);
 
 // A rotation amount: it counts steps of a 2N-th of a turn (`a_tilda` of src/trgsw.rs). Both are numbers of 32 bits, and one turn is 2^32 of the
 // first and 2N of the second, so they are two types: neither may stand where the other is wanted (01, params and utils).
-#[derive(Drop)]
+#[derive(Clone, Copy)]
 pub struct Amount(pub u32);
 
-// d % 1.0: the fraction of d, with d's sign, and nothing is rounded.
+// d % 1.0: the fraction of d, with d's sign, and nothing is rounded. `%` itself would ask for a newer C library where Rattle's own compiler makes
+// the program (fmod). `fract` gives 0 for a whole d of either sign, and so the sign is put back. A NaN has none that may be read.
 fn fraction(d: f64) -> f64
     ensures { IsFraction d result }
 {
-    d % 1.0
+    if d.is_nan() {
+        return d;
+    }
+    d.fract().copysign(d)
 }
 
 // 2^32 times that fraction: nothing is rounded here either.

@@ -1,13 +1,12 @@
 -- `utils::torus_to_f64` meets its contract: both the cast and the quotient are exact.
 -- Assumes nothing.
-use Rattle.std.proofs.Common.{ℕ, ◌^◌, ◌<◌, ◌≤◌, false, pos, arith, lit≤, rules}
+use Rattle.std.proofs.Common.{ℕ, ◌^◌, ◌<◌, ◌≤◌, false, pos, arith, lit≤}
 use lib.Ieee.{binary64, fin, of_int, of_bits, div}
 use lib.Ieee.Exact.{HasValue}
 use lib.Ieee.Back.{round_whole}
 use Rattle.ring.specs.Word.{Q}
 use Rattle.utils.proofs.Exact.{div-pow}
-use Rattle.utils.proofs.torus_to_f64.Statement.{statement}
-use Rattle.utils.proofs.torus_to_f64.Tie as tie
+use Rattle.utils.proofs.torus_to_f64.Goals as goal
 
 few : (t : ℕ) → t < 2 ^ 32 → t < 2 ^ 53
 few t h = omega arith
@@ -19,10 +18,6 @@ quotient : (t : ℕ) → t < 2 ^ 32 → HasValue (div binary64 (of_int binary64 
 unfolding of_int
 quotient t h = div-pow binary64 (of_int binary64 (pos t)) false t 32 (lit≤ tt) (few t h) h (round_whole binary64 false t (few_le t h))
 
-returns : tie.Need-returns
+pub returns : goal.returns
 unfolding of_bits Q
-returns c = quotient c.before.args.t.0 c.row-known.given.fits
-
-pub torus_to_f64_spec : {M : Type 1} → statement M
-torus_to_f64_spec = tie.close
-    (tie.spec (λ c. search rules) returns)
+returns c = quotient c.args.t.0 c.row_known-1.given.fits
