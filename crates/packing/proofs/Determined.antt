@@ -14,7 +14,7 @@ use Rattle.packing.specs.contracts.capped as capped_c
 use Rattle.packing.proofs.pack_text as pack_text
 use Rattle.packing.specs.contracts.pack_text as pack_text_c
 use Rattle.packing.proofs.bit_number as bit_number_call
-use Rattle.packing.specs.contracts.bit_number as bit_number_call_c
+use Rattle.packing.specs.contracts.bit_number as bit_number_c
 use Rattle.packing.proofs.low_word as low_word
 use Rattle.packing.specs.contracts.low_word as low_word_c
 
@@ -36,7 +36,7 @@ capped_determined κs a x y v w = said
 pub pack_text_determined : Determined pack_text_c.ended pack_text.Reads.Learnt
 pack_text_determined κs a x y v w = said
 
-pub bit_number_determined : Determined bit_number_call_c.ended bit_number_call.Reads.Learnt
+pub bit_number_determined : Determined bit_number_c.ended bit_number_call.Reads.Learnt
 bit_number_determined κs a x y v w = said
 
 pub low_word_determined : Determined low_word_c.ended low_word.Reads.Learnt

@@ -1,3 +1,4 @@
+#![tactic(auto)]
 // What the exports of `egl_c` share: the parameters as they come from C, and how an answer crosses into C, as one number of 64 bits (specs/Packed.antt).
 ghost use Rattle.std.specs.Prelude.{◌≡◌, ◌%◌};
 ghost use Rattle.params.specs.Published.{numbers};
