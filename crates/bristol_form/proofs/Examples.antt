@@ -1,7 +1,7 @@
 -- Texts worked out by computing: one for each refusal of docs/DECISIONS.md's form, with its place; texts that are taken.
 -- Assumes nothing.
 use mathlib.Core.Path.{◌≡◌, refl}
-use mathlib.Core.List.{List, [], ◌∷◌}
+use mathlib.Core.List.{List}
 use Prim.Native.Nat.{ℕ}
 use Prim.Native.Char.{code}
 use Prim.Native.String.{String, len, char_at}
@@ -10,7 +10,7 @@ use Rattle.ring.specs.Sums.{sum_to, tab}
 use Rattle.circuit.specs.Form.{first}
 use Rattle.circuit.specs.Private.{refusal}
 use Rattle.tokens.specs.Tokens.{blank, blanks, front, start_of, word_of, end_of, past, with_digit, value_from, number_of, number_at, place_at, alike, name_of, name_at}
-use Rattle.bristol_form.specs.Says.{sizes_to, input_sizes, inputs, output_values, output_sizes, outputs, body, operands_place, results_place, name_place, gate_name, gate_at, among, is_set, set_count, made}
+use Rattle.bristol_form.specs.Says.{sizes_to, input_sizes, inputs, output_values, output_sizes, outputs, body, operands_place, results_place, name_place, gate_at, among, is_set, set_count, made}
 use Rattle.bristol_form.specs.Form.{size_answer, count_fields, value_fields, head_answer, results_for, count_good, operand_answer, result_answer, name_good, gate_answer, end_answer, form_answer, gate_limit, head_limit, limit_answer, text_answer}
 
 -- a text's bytes

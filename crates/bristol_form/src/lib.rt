@@ -1,3 +1,4 @@
+#![tactic(auto)]
 // Texts in the Bristol Fashion form (02, request 2026-02): whether a text is in the form, and its circuit within the limits of 01.
 mod form;
 mod gate;
@@ -11,7 +12,7 @@ pub use form::check;
 
 // The answer to a text, and, where it is done, what a reader of its gates needs: the numbers of its gates and wires, of its inputs and outputs, of its gates that are not
 // EQW, and where the gates begin; 0 where refused.
-#[derive(Drop)]
+#[derive(Clone, Copy)]
 pub struct Checked {
     pub number: u32,
     pub place: usize,
@@ -24,7 +25,7 @@ pub struct Checked {
 }
 
 // A head's answer; what it says where it is not refused; and the first limit that it passes, with its place.
-#[derive(Drop)]
+#[derive(Clone, Copy)]
 pub struct HeadRead {
     pub number: u32,
     pub place: usize,
@@ -38,7 +39,7 @@ pub struct HeadRead {
 }
 
 // The answer to so many sizes, their sum, and the place after them.
-#[derive(Drop)]
+#[derive(Clone, Copy)]
 pub struct Sizes {
     pub number: u32,
     pub place: usize,
@@ -47,7 +48,7 @@ pub struct Sizes {
 }
 
 // The answer to the numbers of a gate's operands and results, these numbers, and the place after them.
-#[derive(Drop)]
+#[derive(Clone, Copy)]
 pub struct Counts {
     pub number: u32,
     pub place: usize,
@@ -57,7 +58,7 @@ pub struct Counts {
 }
 
 // The answer to a gate's operands or results, and the place after them.
-#[derive(Drop)]
+#[derive(Clone, Copy)]
 pub struct Row {
     pub number: u32,
     pub place: usize,
@@ -65,7 +66,7 @@ pub struct Row {
 }
 
 // The answer to a gate, the number of its results, its name and that token's place, and the place after it.
-#[derive(Drop)]
+#[derive(Clone, Copy)]
 pub struct GateRead {
     pub number: u32,
     pub place: usize,
@@ -76,14 +77,14 @@ pub struct GateRead {
 }
 
 // The first limit that gates pass, 0 where none, and the place of the name that shows it.
-#[derive(Drop)]
+#[derive(Clone, Copy)]
 pub struct Limit {
     pub number: u32,
     pub place: usize,
 }
 
 // The answer to the gates, how many are not EQW, the first limit that they pass, and the place after them.
-#[derive(Drop)]
+#[derive(Clone, Copy)]
 pub struct GatesRead {
     pub number: u32,
     pub place: usize,

@@ -1,0 +1,30 @@
+-- `bristol_form::wires::is_among` meets its contract. The loop's invariant: p is the place after i tokens, and w is not among their numbers.
+-- Assumes nothing.
+use mathlib.Core.Path.{sym, ◌∙◌}
+use native.Mathlib.Omega.{arith}
+use Rattle.tokens.proofs.Laws.{past_none}
+use Rattle.tokens.proofs.Reading.{reading}
+use Rattle.bristol_form.proofs.Lookup.{among_none, among_found, among_passed}
+use Rattle.bristol_form.proofs.wires.is_among.Goals as goal
+
+pub loop-i-init : goal.loop-i-init
+loop-i-init c = let a = c.args in (omega arith, sym (past_none a.text.now a.at), among_none a.text.now a.at a.w)
+
+pub returns-then-t-w : goal.returns-then-t-w
+returns-then-t-w c =
+    let l = c.loop-i in
+    let a = c.args in
+    let t = c.next-t in
+    sym (among_found a.text.now a.at a.w l.i a.count (omega arith)
+    (sym c.if-t-w.true ∙ (reading a.text.now a.at l.i l.invariant.1 t.ensures).number_is))
+
+pub loop-i-preserved : goal.loop-i-preserved
+loop-i-preserved c =
+    let l = c.loop-i in
+    let a = c.args in
+    let t = c.next-t in (
+      omega arith,
+      (reading a.text.now a.at l.i l.invariant.1 t.ensures).end_is,
+      among_passed a.text.now a.at a.w l.i l.invariant.2
+          (λ e. c.if-t-w.false ((reading a.text.now a.at l.i l.invariant.1 t.ensures).number_is ∙ sym e)),
+    )
