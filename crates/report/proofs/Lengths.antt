@@ -1,24 +1,21 @@
 -- How long a circuit and its text can be, so that the program's buffers are held to these lengths: a text has one line with numbers of at most ten digits and
 -- sixteen lines of at most 70 bytes, and the numbers of a refusal are small because its place stands in a head that was accepted or is one of the head's own.
 -- Assumes nothing.
-use mathlib.Core.Path.{◌≡◌, refl, sym, ap, ◌∙◌}
+use mathlib.Core.Path.{◌≡◌, sym, ap, ◌∙◌}
 use mathlib.Core.Logic.{⊎_elim}
 use mathlib.Core.Bool.{Bool, true, false}
-use mathlib.Core.List.{List, [], ◌∷◌, ◌++◌}
-use Prim.Native.Nat.{ℕ, zero, suc, ◌+◌, ◌*◌, ◌^◌, ◌≤◌, ◌<◌}
+use mathlib.Core.List.{List, [], ◌∷◌}
+use Prim.Native.Nat.{ℕ, zero, suc, ◌+◌, ◌^◌, ◌≤◌, ◌<◌}
 use native.Mathlib.Decide.{ℕ_discrete}
 use native.Mathlib.Omega.{arith}
 use borrow.Author.Tests.{eq-eqb, ne_eqb}
-use lib.Dec.{T, lit<, leb, ltb, eqb, ltb→lt}
+use lib.Dec.{T, lit<, ltb, ltb→lt}
 use lib.ListN.{length, take, drop, length-append}
 use lib.Seq.{take_at}
-use Rattle.ring.specs.Word.{at}
 use Rattle.params.specs.declared.Answer.{Answer}
 use Rattle.params.specs.Refusal.{answer}
-use Rattle.kinds.specs.Kinds.{last_kind}
-use Rattle.circuit.specs.Form.{version, inputs, gates, outputs, wires, gate_place, kind_at, output_place, output_at, longest, or_else, first, operand_good, output_answer, answer_of, gate_fields, head_fields, FieldCheck, asks, first_at}
+use Rattle.circuit.specs.Form.{inputs, gates, outputs, wires, gate_place, output_place, output_at, longest, or_else, first, output_answer, answer_of, gate_fields, head_fields, FieldCheck, asks, first_at}
 use Rattle.circuit.specs.Private.{gate_answer, head_answer, refusal}
-use Rattle.circuit.specs.Valid.{Head, Valid}
 use Rattle.kinds.proofs.Table.{both, both_left, both_right}
 use Rattle.circuit.proofs.Accept.{lt_or_ge, head_good, accepted}
 use Rattle.circuit.proofs.Longest.{answer_cut, accepted_whole}

@@ -1,9 +1,8 @@
 -- The text, piece by piece: where it stands after each piece, and how long the pieces can be.
 -- Assumes nothing.
-use mathlib.Core.Path.{◌≡◌, refl, sym, ap, ◌∙◌}
+use mathlib.Core.Path.{◌≡◌, refl, ap}
 use mathlib.Core.List.{List, [], ◌∷◌, ◌++◌}
 use Prim.Native.Nat.{ℕ, zero, suc, ◌+◌, ◌*◌, ◌^◌, ◌≤◌, ◌<◌}
-use native.Mathlib.Nat.{zero-add}
 use native.Mathlib.Numerals.{add-one}
 use native.Mathlib.Omega.{arith}
 use lib.Dec.{lit≤}
@@ -14,7 +13,7 @@ use Rattle.ring.proofs.Tab.{length-tab}
 use Rattle.circuit.specs.declared.Shape.{Shape}
 use Rattle.circuit.specs.Form.{version, inputs, gates, outputs, counts_of}
 use Rattle.circuit.specs.Valid.{Head, Valid}
-use Rattle.circuit.specs.Plain.{output_bits, wires_of, work_of}
+use Rattle.circuit.specs.Plain.{output_bits, work_of}
 use Rattle.circuit.proofs.Laws.{work_to}
 use Rattle.report.specs.Decimal.{decimal}
 use Rattle.report.specs.Private.{splice}

@@ -1,14 +1,13 @@
 -- The whole text by cases, its length, and the routine's answer by whether there is room.
 -- Assumes nothing.
-use mathlib.Core.Path.{◌≡◌, refl, sym, ap, ◌∙◌}
+use mathlib.Core.Path.{◌≡◌, sym, ap, ◌∙◌}
 use mathlib.Core.Logic.{⊎_elim}
 use mathlib.Core.List.{List, [], ◌∷◌, ◌++◌, append-nil}
-use Prim.Native.Nat.{ℕ, ◌+◌, ◌^◌, ◌≤◌, ◌<◌}
+use Prim.Native.Nat.{ℕ, ◌^◌, ◌≤◌, ◌<◌}
 use native.Mathlib.Omega.{arith}
 use borrow.Author.Tests.{le-leb, lt-leb}
 use lib.ListN.{length, take, drop, length-append}
 use lib.Seq.{take_at}
-use Rattle.params.specs.declared.Answer.{Answer}
 use Rattle.params.specs.Refusal.{answer}
 use Rattle.params.proofs.Answers.{kept, when_done}
 use Rattle.circuit.specs.declared.Worked.{Worked}
@@ -18,7 +17,7 @@ use Rattle.circuit.specs.Plain.{work_of, work_answer}
 use Rattle.circuit.proofs.Accept.{lt_or_ge}
 use Rattle.report.specs.declared.Described.{Described}
 use Rattle.report.specs.Private.{splice}
-use Rattle.report.specs.Text.{outputs_word, work_word, named, counts_text, head_text, rows_to, table_text, refused_text, text_of, describe_number, describe_out, described, describe_answer}
+use Rattle.report.specs.Text.{outputs_word, work_word, named, counts_text, head_text, rows_to, refused_text, text_of, describe_number, describe_out, described, describe_answer}
 use Rattle.report.proofs.Spliced.{splice_front}
 use Rattle.report.proofs.Pieces.{length-named, length_counts, work_small}
 

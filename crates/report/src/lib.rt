@@ -1,3 +1,4 @@
+#![tactic(auto)]
 // What a circuit's bytes say, as text: what the program prints (01, 'Circuits').
 ghost use Rattle.std.specs.Prelude.{◌≡◌, ◌++◌, length, drop};
 ghost use Rattle.report.specs.Text.{describe_answer, describe_out, refused_line};
@@ -10,7 +11,7 @@ mod lines;
 mod text;
 
 // The answer, 2 where the lent slice is shorter than the text, and the text's length, 0 where refused.
-#[derive(Drop)]
+#[derive(Clone, Copy)]
 pub struct Described {
     pub answer: Answer,
     pub length: usize,
