@@ -19,7 +19,7 @@ use Rattle.drift_report.specs.Words.{report_words, report_from, empty_number, re
 use Rattle.drift_report.proofs.AsWords.{words_merged, words_refused}
 use Rattle.drift_report.proofs.Merges.{merge_told, report_told}
 use Rattle.drift_report.proofs.report_of as report_of_call
-use Rattle.drift_report.specs.contracts.report_of as report_of_call_c
+use Rattle.drift_report.specs.contracts.report_of as report_of_c
 use Rattle.drift_report.proofs.merge as merge
 use Rattle.drift_report.specs.contracts.merge as merge_c
 use Rattle.drift_report.proofs.empty as empty
@@ -35,8 +35,8 @@ pub merge_tells : (κs : Lfts (merge_c.ended).signature.lifetimes) (a : Args (me
     → merge.Reads.Learnt κs a x (at_exit merge_c.ended κs a v) → x ≡ merge_told a.0 a.1.0
 merge_tells κs a x v h = h
 
-pub report_of_tells : (κs : Lfts (report_of_call_c.ended).signature.lifetimes) (a : Args (report_of_call_c.ended).signature κs) (x : Res (report_of_call_c.ended).signature κs) (v : Lasts report_of_call_c.ended κs a)
-    → report_of_call.Reads.Learnt κs a x (at_exit report_of_call_c.ended κs a v) → x ≡ report_told a.0.now
+pub report_of_tells : (κs : Lfts (report_of_c.ended).signature.lifetimes) (a : Args (report_of_c.ended).signature κs) (x : Res (report_of_c.ended).signature κs) (v : Lasts report_of_c.ended κs a)
+    → report_of_call.Reads.Learnt κs a x (at_exit report_of_c.ended κs a v) → x ≡ report_told a.0.now
 report_of_tells κs a x v h = h
 
 pub empty_tells : (κs : Lfts (empty_c.ended).signature.lifetimes) (a : Args (empty_c.ended).signature κs) (x : Res (empty_c.ended).signature κs) (v : Lasts empty_c.ended κs a)

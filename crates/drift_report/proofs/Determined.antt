@@ -4,7 +4,7 @@ use Rattle.ring.proofs.Outcomes.{Determined, said, said_written}
 use Rattle.drift_report.proofs.empty as empty
 use Rattle.drift_report.specs.contracts.empty as empty_c
 use Rattle.drift_report.proofs.report_of as report_of_call
-use Rattle.drift_report.specs.contracts.report_of as report_of_call_c
+use Rattle.drift_report.specs.contracts.report_of as report_of_c
 use Rattle.drift_report.proofs.merge as merge
 use Rattle.drift_report.specs.contracts.merge as merge_c
 use Rattle.drift_report.proofs.as_words.empty_into as empty_into
@@ -17,7 +17,7 @@ use Rattle.drift_report.specs.contracts.as_words.merge_into as merge_into_c
 pub empty_determined : Determined empty_c.ended empty.Reads.Learnt
 empty_determined κs a x y v w = said
 
-pub report_of_determined : Determined report_of_call_c.ended report_of_call.Reads.Learnt
+pub report_of_determined : Determined report_of_c.ended report_of_call.Reads.Learnt
 report_of_determined κs a x y v w = said
 
 pub merge_determined : Determined merge_c.ended merge.Reads.Learnt

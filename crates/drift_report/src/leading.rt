@@ -5,7 +5,7 @@ ghost use Rattle.drift_report.specs.Leader.{ahead, lead_of};
 use drift_size::absolute;
 
 // A drift and its wire.
-#[derive(Drop)]
+#[derive(Clone, Copy)]
 pub(crate) struct Leader {
     pub drift: u32,
     pub wire: u32,

@@ -1,3 +1,4 @@
+#![tactic(auto)]
 // The drift report (02, 2026-05): over many wires, how many drifts had each size in bits, with the drift largest in absolute value, its wire and the total of wires. A
 // report is one record by value, and two merge into one. As words, for callers that have no records: `as_words`.
 ghost use Rattle.std.specs.Prelude.{◌≡◌, ◌+◌, length};
@@ -13,7 +14,7 @@ mod merging;
 mod one_pass;
 
 // A report. Its counts go by the bits of the drift's absolute value, 0 to 32; the largest drift is a word that is read as signed; its wire is its place, from 0.
-#[derive(Drop)]
+#[derive(Clone, Copy)]
 pub struct Report {
     pub counts: [u32; 33],
     pub largest: Torus,
@@ -22,7 +23,7 @@ pub struct Report {
 }
 
 // What a call tells: the report, the empty one beside a refusal.
-#[derive(Drop)]
+#[derive(Clone, Copy)]
 pub struct ReportTold {
     pub answer: Answer,
     pub report: Report,
