@@ -11,9 +11,9 @@ use Rattle.tlwe.specs.contracts.encryption.encrypt as encrypt_c
 use Rattle.tlwe.proofs.keys.is_binary as is_binary
 use Rattle.tlwe.specs.contracts.keys.is_binary as is_binary_c
 use Rattle.tlwe.proofs.keys.key_number as key_number_call
-use Rattle.tlwe.specs.contracts.keys.key_number as key_number_call_c
+use Rattle.tlwe.specs.contracts.keys.key_number as key_number_c
 use Rattle.tlwe.proofs.keys.phase_of as phase_of_call
-use Rattle.tlwe.specs.contracts.keys.phase_of as phase_of_call_c
+use Rattle.tlwe.specs.contracts.keys.phase_of as phase_of_c
 use Rattle.tlwe.proofs.linear.combine as combine
 use Rattle.tlwe.specs.contracts.linear.combine as combine_c
 use Rattle.tlwe.proofs.linear.add as add
@@ -27,7 +27,7 @@ use Rattle.tlwe.specs.contracts.linear.add_mul as add_mul_c
 use Rattle.tlwe.proofs.linear.sub_mul as sub_mul
 use Rattle.tlwe.specs.contracts.linear.sub_mul as sub_mul_c
 use Rattle.tlwe.proofs.plaintexts.modulus_number as modulus_number_call
-use Rattle.tlwe.specs.contracts.plaintexts.modulus_number as modulus_number_call_c
+use Rattle.tlwe.specs.contracts.plaintexts.modulus_number as modulus_number_c
 
 -- the contracts of the three below speak of the result field by field
 pub decrypt_bit_determined : Determined decrypt_bit_c.ended decrypt_bit.Reads.Learnt
@@ -42,10 +42,10 @@ encrypt_determined κs a x y v w = said_written 6
 pub is_binary_determined : Determined is_binary_c.ended is_binary.Reads.Learnt
 is_binary_determined κs a x y v w = said
 
-pub key_number_determined : Determined key_number_call_c.ended key_number_call.Reads.Learnt
+pub key_number_determined : Determined key_number_c.ended key_number_call.Reads.Learnt
 key_number_determined κs a x y v w = said
 
-pub phase_of_determined : Determined phase_of_call_c.ended phase_of_call.Reads.Learnt
+pub phase_of_determined : Determined phase_of_c.ended phase_of_call.Reads.Learnt
 phase_of_determined κs a x y v w p q = (λ i. record { answer = coincide p.0 q.0 i; value = record { 0 = coincide p.1 q.1 i } }, refl)
 
 pub combine_determined : Determined combine_c.ended combine.Reads.Learnt
@@ -66,5 +66,5 @@ add_mul_determined κs a x y v w = said_written 5
 pub sub_mul_determined : Determined sub_mul_c.ended sub_mul.Reads.Learnt
 sub_mul_determined κs a x y v w = said_written 5
 
-pub modulus_number_determined : Determined modulus_number_call_c.ended modulus_number_call.Reads.Learnt
+pub modulus_number_determined : Determined modulus_number_c.ended modulus_number_call.Reads.Learnt
 modulus_number_determined κs a x y v w = said

@@ -13,7 +13,7 @@ use params::{Answer, Params};
 use utils::Torus;
 
 // A word that was worked out with a key, and the key's refusal.
-#[derive(Drop)]
+#[derive(Clone, Copy)]
 pub(crate) struct Keyed {
     pub word: u32,
     pub number: u32,

@@ -1,3 +1,4 @@
+#![tactic(auto)]
 // Ciphertexts of single words (src/tlwe.rs): n + 1 words at level 0, N + 1 at level 1, the last of them b. Masks and noise are lent (01, tlwe).
 ghost use Rattle.std.specs.Prelude.{◌≡◌};
 ghost use Rattle.tlwe.specs.Private.{masks_of};
@@ -11,7 +12,7 @@ pub mod linear;
 pub mod plaintexts;
 
 // The level of a ciphertext: `TLWELv0` or `TLWELv1` of the Rust.
-#[derive(Drop)]
+#[derive(Clone, Copy)]
 pub enum Level {
     Zero,
     One,
@@ -19,7 +20,7 @@ pub enum Level {
 
 // What is encrypted: a bit (`encrypt_bool`), a fraction of a turn as a double (`encrypt_f64`), or a message with its modulus
 // (`encrypt_lwe_message`).
-#[derive(Drop)]
+#[derive(Clone, Copy)]
 pub enum Plain {
     Bit(bool),
     Turn(f64),
@@ -27,21 +28,21 @@ pub enum Plain {
 }
 
 // The phase of a ciphertext, 0 beside a refusal.
-#[derive(Drop)]
+#[derive(Clone, Copy)]
 pub struct Phase {
     pub answer: Answer,
     pub value: utils::Torus,
 }
 
 // A decrypted bit, false beside a refusal.
-#[derive(Drop)]
+#[derive(Clone, Copy)]
 pub struct DecryptedBit {
     pub answer: Answer,
     pub value: bool,
 }
 
 // A decrypted message, 0 beside a refusal.
-#[derive(Drop)]
+#[derive(Clone, Copy)]
 pub struct DecryptedMessage {
     pub answer: Answer,
     pub value: u64,
