@@ -1,3 +1,4 @@
+#![tactic(auto)]
 // Circuits in the Bristol Fashion text form (02, request 2026-02), read into our circuit form.
 mod bytes;
 mod gates;
@@ -8,7 +9,7 @@ mod whole;
 pub use whole::import;
 
 // The answer to an import: 11 or 12 with the place of the token that shows it, 2 where the lent slice is too short; and the length written, 0 where refused.
-#[derive(Drop)]
+#[derive(Clone, Copy)]
 pub struct Imported {
     pub number: u32,
     pub place: usize,
@@ -16,7 +17,7 @@ pub struct Imported {
 }
 
 // What a gate of the text says: its first two operands, its first result, its name, and the place after it.
-#[derive(Drop)]
+#[derive(Clone, Copy)]
 pub struct Line {
     pub first: usize,
     pub second: usize,
@@ -26,7 +27,7 @@ pub struct Line {
 }
 
 // A gate of the text read backwards: its name, its result, its last operand, and where it begins.
-#[derive(Drop)]
+#[derive(Clone, Copy)]
 pub struct BehindLine {
     pub name: usize,
     pub result: usize,
