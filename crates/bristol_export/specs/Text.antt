@@ -6,7 +6,7 @@ use Rattle.ring.specs.Lists.{joined}
 use Rattle.circuit.specs.Form.{inputs, gates, outputs, kind_at, operand_at, output_at}
 use Rattle.tokens.specs.Tokens.{inv_name, eqw_name}
 use Rattle.report.specs.Decimal.{decimal}
-use Rattle.bristol_export.specs.Steps.{Step, source_of, count, step_at}
+use Rattle.bristol_export.specs.Steps.{source_of, count, step_at}
 
 -- ---- a line
 

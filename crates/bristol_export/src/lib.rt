@@ -1,3 +1,4 @@
+#![tactic(auto)]
 // A circuit's bytes as text in the Bristol Fashion form (02, request 2026-02), for other tools to read.
 ghost use Rattle.std.specs.Prelude.{◌≡◌, length};
 ghost use Rattle.bristol_export.specs.Export.{export_said, export_out};
@@ -10,7 +11,7 @@ mod text;
 mod whole;
 
 // The answer, and the text's length, 0 where refused.
-#[derive(Drop)]
+#[derive(Clone, Copy)]
 pub struct Exported {
     pub answer: Answer,
     pub length: usize,
