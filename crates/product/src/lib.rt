@@ -1,3 +1,4 @@
+#![tactic(auto)]
 // The exact product of two polynomials of N words modulo X^N + 1 and 2^32. It stands in for src/fft, whose transform rounds (01, 'What changes shape').
 ghost use Rattle.std.specs.Prelude.{◌≡◌, suc, ◌+◌, ◌-◌, ◌*◌, ◌≤◌, ◌<◌, length};
 ghost use Rattle.params.specs.Refusal.{answer};
