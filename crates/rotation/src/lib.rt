@@ -1,3 +1,4 @@
+#![tactic(auto)]
 // Multiplication by X^k and the rounding of words to amounts k (src/trgsw.rs: `poly_mul_with_x_k`, and the first lines of `blind_rotate`).
 ghost use Rattle.std.specs.Prelude.{◌≡◌, ◌+◌, ◌^◌, ◌≤◌, ◌<◌, length};
 ghost use Rattle.params.specs.Refusal.{answer, if_done};
@@ -13,7 +14,7 @@ use params::{Answer, Params};
 use utils::{Amount, Torus};
 
 // An amount, and 0 beside a refusal.
-#[derive(Drop)]
+#[derive(Clone, Copy)]
 pub struct Rounded {
     pub answer: Answer,
     pub amount: Amount,
