@@ -22,7 +22,7 @@ use Rattle.key.specs.Private.{Lent}
 use Rattle.key.proofs.Checks.{lookup_done, lookup_at_zero, generate_good}
 use Rattle.key.proofs.FormerKey.{idle_left_out}
 use Rattle.key.proofs.row_index as row_index_call
-use Rattle.key.specs.contracts.row_index as row_index_call_c
+use Rattle.key.specs.contracts.row_index as row_index_c
 use Rattle.key.proofs.switching_row_answer as switching_row_answer
 use Rattle.key.specs.contracts.switching_row_answer as switching_row_answer_c
 use Rattle.key.proofs.switching_row as switching_row
@@ -63,8 +63,8 @@ dropping_generates κs a x v h key z masks noise lent e d = h.1 ∙ when_done _ 
 
 -- ---- looking a row up
 
-pub row_index_tells : (κs : Lfts (row_index_call_c.ended).signature.lifetimes) (a : Args (row_index_call_c.ended).signature κs) (x : Res (row_index_call_c.ended).signature κs) (v : Lasts row_index_call_c.ended κs a)
-    → row_index_call.Reads.Learnt κs a x (at_exit row_index_call_c.ended κs a v) → x ≡ place_out a.0 a.1.0 a.1.1.0 a.1.1.1.0
+pub row_index_tells : (κs : Lfts (row_index_c.ended).signature.lifetimes) (a : Args (row_index_c.ended).signature κs) (x : Res (row_index_c.ended).signature κs) (v : Lasts row_index_c.ended κs a)
+    → row_index_call.Reads.Learnt κs a x (at_exit row_index_c.ended κs a v) → x ≡ place_out a.0 a.1.0 a.1.1.0 a.1.1.1.0
 row_index_tells κs a x v h = h
 
 pub switching_row_answer_tells : (κs : Lfts (switching_row_answer_c.ended).signature.lifetimes) (a : Args (switching_row_answer_c.ended).signature κs) (x : Res (switching_row_answer_c.ended).signature κs)
@@ -78,8 +78,8 @@ pub switching_row_tells : (κs : Lfts (switching_row_c.ended).signature.lifetime
 switching_row_tells κs a x v h = h
 
 -- an index in its range has its row's place
-pub row_index_finds : (κs : Lfts (row_index_call_c.ended).signature.lifetimes) (a : Args (row_index_call_c.ended).signature κs) (x : Res (row_index_call_c.ended).signature κs) (v : Lasts row_index_call_c.ended κs a)
-    → row_index_call.Reads.Learnt κs a x (at_exit row_index_call_c.ended κs a v)
+pub row_index_finds : (κs : Lfts (row_index_c.ended).signature.lifetimes) (a : Args (row_index_c.ended).signature κs) (x : Res (row_index_c.ended).signature κs) (v : Lasts row_index_c.ended κs a)
+    → row_index_call.Reads.Learnt κs a x (at_exit row_index_c.ended κs a v)
     → let p = a.0 in let i = a.1.0 in let j = a.1.1.0 in let k = a.1.1.1.0 in
     params_number p ≡ 0 → i < size p → j < p.t → 1 ≤ k → k < base p → x ≡ record { answer = answer 0; value = (base p - 1) * (p.t * i + j) + (k - 1) }
 unfolding place_out row_index
@@ -88,8 +88,8 @@ row_index_finds κs a x v h e hi hj from hk =
     h ∙ ap₂ (λ (n v : ℕ). record { answer = answer n; value = v }) d (when_done _ _ _ d)
 
 -- and k = 0 has none, whatever i and j
-pub row_index_at_zero : (κs : Lfts (row_index_call_c.ended).signature.lifetimes) (a : Args (row_index_call_c.ended).signature κs) (x : Res (row_index_call_c.ended).signature κs) (v : Lasts row_index_call_c.ended κs a)
-    → row_index_call.Reads.Learnt κs a x (at_exit row_index_call_c.ended κs a v) → params_number a.0 ≡ 0 → a.1.1.1.0 ≡ 0 → x ≡ record { answer = answer 3; value = 0 }
+pub row_index_at_zero : (κs : Lfts (row_index_c.ended).signature.lifetimes) (a : Args (row_index_c.ended).signature κs) (x : Res (row_index_c.ended).signature κs) (v : Lasts row_index_c.ended κs a)
+    → row_index_call.Reads.Learnt κs a x (at_exit row_index_c.ended κs a v) → params_number a.0 ≡ 0 → a.1.1.1.0 ≡ 0 → x ≡ record { answer = answer 3; value = 0 }
 unfolding place_out
 row_index_at_zero κs a x v h e z =
     let d = lookup_at_zero a.0 a.1.0 a.1.1.0 a.1.1.1.0 e z in

@@ -1,3 +1,4 @@
+#![tactic(auto)]
 // Key material (src/key.rs): the decomposition offset, the test vector of the gates, the switching key, and the lookup of both keys' rows.
 ghost use Rattle.std.specs.Prelude.{◌≡◌, [], ◌+◌, ◌-◌, ◌*◌, ◌%◌, ◌^◌, ◌≤◌, ◌<◌, length};
 ghost use Rattle.ring.specs.Word.{Q};
@@ -18,14 +19,14 @@ use params::{Answer, Params};
 use utils::Torus;
 
 // The answer, and the offset beside it: 0 where refused.
-#[derive(Drop)]
+#[derive(Clone, Copy)]
 pub struct Offset {
     pub answer: Answer,
     pub value: Torus,
 }
 
 // The answer, and a row's place among the rows beside it: 0 where refused.
-#[derive(Drop)]
+#[derive(Clone, Copy)]
 pub struct RowPlace {
     pub answer: Answer,
     pub value: u32,

@@ -4,15 +4,13 @@ use mathlib.Core.Path.{◌≡◌, sym, ap₂, ◌∙◌}
 use Prim.Native.Nat.{ℕ, ◌+◌, ◌-◌, ◌*◌, ◌/◌, ◌%◌, ◌^◌, ◌<◌}
 use native.Mathlib.Nat.{one-mul}
 use native.Mathlib.Omega.{arith}
-use lib.Pow.{pow_pos, pow_mono, shl_exact}
+use lib.Pow.{pow_mono, shl_exact}
 use Rattle.ring.specs.Word.{Q}
 use Rattle.params.specs.declared.Params.{Params}
 use Rattle.params.specs.Ranges.{InRange}
 use Rattle.key.specs.OffsetRule.{offset_rule}
-use Rattle.key.proofs.OffsetRule.{divisor_pos, dividend_below, rule_below, offset_is_rule}
-use borrow.Author.Rules.{rules}
-use Rattle.key.proofs.offset_by_rule.Statement.{statement}
-use Rattle.key.proofs.offset_by_rule.Tie as tie
+use Rattle.key.proofs.OffsetRule.{dividend_below, rule_below, offset_is_rule}
+use Rattle.key.proofs.offset_by_rule.Goals as goal
 
 -- 1 moved up by s places in 64 bits
 abbrev shifted : ℕ → ℕ
@@ -41,29 +39,12 @@ module _ (p : Params) (r : InRange p) where
   unfolding offset_rule
   quotient = ap₂ (λ (d c : ℕ). d / (c - 1)) (ap₂ (λ (x y : ℕ). x * (y - 1)) power fields) field
 
-sub-fields : tie.Need-overflow-sub-fields
-sub-fields c =
-    let p = c.before.args.p in
-    omega (arith, fields p c.before.requires, pow_pos (p.l * p.bgbit))
+pub overflow_mul-result : goal.overflow_mul-result
+overflow_mul-result c = omega (arith, product_fits c.args.p c.requires)
 
-sub-field : tie.Need-overflow-sub-field
-sub-field c = omega (arith, field c.before.args.p c.before.requires, divisor_pos c.before.args.p c.before.requires)
-
-mul-result : tie.Need-overflow-mul-result
-mul-result c = omega (arith, product_fits c.before.args.p c.before.requires)
-
-div-result : tie.Need-nonzero-div-result
-div-result c = omega (arith, field c.before.args.p c.before.requires, divisor_pos c.before.args.p c.before.requires)
-
-cast-result : tie.Need-overflow-cast-result
+pub overflow_cast-result : goal.overflow_cast-result
 unfolding Q
-cast-result c = omega (arith, quotient c.before.args.p c.before.requires, rule_below c.before.args.p c.before.requires)
+overflow_cast-result c = omega (arith, quotient c.args.p c.requires, rule_below c.args.p c.requires)
 
-returns : tie.Need-returns
-returns c = quotient c.before.args.p c.before.requires ∙ sym (offset_is_rule c.before.args.p c.before.requires)
-
-pub offset_by_rule_spec : {M : Type 1} → statement M
-offset_by_rule_spec =
-    tie.close
-    (tie.spec (λ c. omega arith) (λ c. omega arith) (λ c. omega arith) (λ c. search rules) (λ c. search rules) (λ c. search rules) (λ c. search rules) sub-fields
-    (λ c. search rules) (λ c. search rules) sub-field mul-result div-result cast-result returns)
+pub returns : goal.returns
+returns c = quotient c.args.p c.requires ∙ sym (offset_is_rule c.args.p c.requires)
