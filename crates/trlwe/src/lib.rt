@@ -1,3 +1,4 @@
+#![tactic(auto)]
 // Pairs of polynomials (src/trlwe.rs): a and b, N words each. Masks and noise are lent, and the product is exact (01, trlwe).
 ghost use Rattle.std.specs.Prelude.{◌≡◌, cond, ◌+◌, ◌-◌, ◌<◌, leb, length};
 ghost use Rattle.params.specs.Refusal.{answer};

@@ -1,0 +1,27 @@
+-- `trlwe::extract_into` meets its contract: below i the slice holds the sample's masks, and the last store is b's word.
+-- Assumes nothing.
+use mathlib.Core.Path.{refl}
+use Prim.Native.Nat.{◌<◌}
+use native.Mathlib.Omega.{arith}
+use lib.ListN.{length, length-set}
+use Rattle.ring.specs.Word.{at}
+use Rattle.ring.specs.Phase.{extract}
+use Rattle.ring.proofs.Tab.{tab_none, tab_more, tab_last}
+use Rattle.trlwe.proofs.extract_into.Goals as goal
+
+pub loop-i-init : goal.loop-i-init
+loop-i-init c = (omega arith, refl, tab_none _ _)
+
+pub loop-i-preserved : goal.loop-i-preserved
+loop-i-preserved c =
+    let g = c.args in
+    let l = c.loop-i in
+    let h : l.i < length g.out.now = omega arith in
+    (omega arith, simp length-set l.invariant.1, tab_more _ g.out.now l.i h l.invariant.2 c.extracted_at.ensures)
+
+pub returns : goal.returns
+unfolding extract
+returns c =
+    let g = c.args in
+    let l = c.loop-i in
+    tab_last _ g.out.now l.i (length g.a.now) (at g.b.now g.k) (omega arith) (omega arith) (omega arith) l.invariant.2

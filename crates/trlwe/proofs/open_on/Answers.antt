@@ -1,0 +1,10 @@
+-- `trlwe::open_on` meets its contract: each bit is that of b's word less the product's.
+-- Assumes nothing.
+use Rattle.trlwe.proofs.Pairs.{opened}
+use Rattle.trlwe.proofs.open_on.Goals as goal
+
+pub returns : goal.returns
+returns c =
+    let g = c.args in
+    let w = c.requires in
+    opened g.p w.0 g.a.now g.b.now g.key.now g.out.now g.az.now w.1 w.3 w.5 w.4 c.poly_mul.ensures.written c.bits_of.ensures
