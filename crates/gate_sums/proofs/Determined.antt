@@ -2,11 +2,11 @@
 -- Assumes nothing.
 use Rattle.ring.proofs.Outcomes.{Determined, said, said_written}
 use Rattle.gate_sums.proofs.weights_of as weights_of_call
-use Rattle.gate_sums.specs.contracts.weights_of as weights_of_call_c
+use Rattle.gate_sums.specs.contracts.weights_of as weights_of_c
 use Rattle.gate_sums.proofs.sum as sum
 use Rattle.gate_sums.specs.contracts.sum as sum_c
 use Rattle.gate_sums.proofs.mux_sum as mux_sum_call
-use Rattle.gate_sums.specs.contracts.mux_sum as mux_sum_call_c
+use Rattle.gate_sums.specs.contracts.mux_sum as mux_sum_c
 use Rattle.gate_sums.proofs.wires.not as not
 use Rattle.gate_sums.specs.contracts.wires.not as not_c
 use Rattle.gate_sums.proofs.wires.copy as copy
@@ -14,13 +14,13 @@ use Rattle.gate_sums.specs.contracts.wires.copy as copy_c
 use Rattle.gate_sums.proofs.wires.constant as constant
 use Rattle.gate_sums.specs.contracts.wires.constant as constant_c
 
-pub weights_of_determined : Determined weights_of_call_c.ended weights_of_call.Reads.Learnt
+pub weights_of_determined : Determined weights_of_c.ended weights_of_call.Reads.Learnt
 weights_of_determined κs a x y v w = said
 
 pub sum_determined : Determined sum_c.ended sum.Reads.Learnt
 sum_determined κs a x y v w = said_written 4
 
-pub mux_sum_determined : Determined mux_sum_call_c.ended mux_sum_call.Reads.Learnt
+pub mux_sum_determined : Determined mux_sum_c.ended mux_sum_call.Reads.Learnt
 mux_sum_determined κs a x y v w = said_written 3
 
 pub not_determined : Determined not_c.ended not.Reads.Learnt

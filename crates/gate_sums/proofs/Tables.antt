@@ -2,7 +2,7 @@
 -- Assumes nothing.
 use mathlib.Core.Path.{◌≡◌, refl}
 use mathlib.Core.Bool.{Bool, true, false, not, ◌&&◌, ◌||◌, xor}
-use Prim.Native.Nat.{ℕ, ◌+◌, ◌*◌, ◌%◌}
+use Prim.Native.Nat.{◌+◌, ◌*◌, ◌%◌}
 use Rattle.ring.specs.Word.{Q, neg, eighth}
 use Rattle.tlwe.specs.Plain.{bit_word}
 use Rattle.gate_sums.specs.declared.Kind.{Kind}

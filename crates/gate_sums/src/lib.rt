@@ -1,3 +1,4 @@
+#![tactic(auto)]
 // What the two-input gates sum before they rotate, and the gates that need no rotation (src/gates.rs).
 ghost use Rattle.std.specs.Prelude.{◌≡◌, ◌-◌, ◌<◌, length};
 ghost use Rattle.ring.specs.Poly.{plus};
@@ -14,7 +15,7 @@ use tlwe::Level;
 pub mod wires;
 
 // The two-input gates. What each sums and means stands in one table, specs/Kind.antt.
-#[derive(Drop)]
+#[derive(Clone, Copy)]
 pub enum Kind {
     Nand,
     Or,
@@ -29,7 +30,7 @@ pub enum Kind {
 }
 
 // A kind's sum, as words: its multiples of a and b, and what is added to the last word.
-#[derive(Drop)]
+#[derive(Clone, Copy)]
 pub struct Weights {
     pub a: u32,
     pub b: u32,

@@ -10,22 +10,17 @@ use mathlib.Core.List.{[], ◌∷◌}
 use Rattle.refusals.specs.Table.{is}
 use Rattle.refusals.proofs.Table.{chained}
 use Rattle.tlwe.specs.Linear.{linear_number}
-use Rattle.gate_sums.proofs.wires.copy_number.Statement.{statement}
-use Rattle.gate_sums.proofs.wires.copy_number.Tie as tie
+use Rattle.gate_sums.proofs.wires.copy_number.Goals as goal
 
 -- the one operand's length stands for both
 twice : (b : Bool) (rest : ℕ) → check b 2 rest ≡ check b 2 (check b 2 rest)
 twice true rest = refl
 twice false rest = refl
 
-returns : tie.Need-returns
+pub returns : goal.returns
 unfolding linear_number
 returns c =
-    let a = c.before.before.before.args in
-    rw (c.is2.ensures, c.before.is.ensures)
-    (chained a.p (λ s. is a.la s.level0 2 ∷ is a.lo s.level0 2 ∷ []) refl c.before.before.sizes-of.ensures
+    let a = c.args in
+    rw (c.is.ensures, c.is-number.ensures)
+    (chained a.p (λ s. is a.la s.level0 2 ∷ is a.lo s.level0 2 ∷ []) refl c.sizes_of-s.ensures
     ∙ ap (λ (n : ℕ). check (eqb (params_number a.p) 0) 1 n) (twice (eqb a.la (a.p.n + 1)) (check (eqb a.lo (a.p.n + 1)) 2 0)))
-
-pub copy_number_spec : {M : Type 1} → statement M
-copy_number_spec = tie.close
-    (tie.spec (λ c κs. tt) (λ c κs. tt) (λ c κs. tt) returns)
