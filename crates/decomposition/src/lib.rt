@@ -1,3 +1,4 @@
+#![tactic(auto)]
 // The gadget decomposition (src/trgsw.rs, `decomposition`): the digits of a word, of a polynomial and of a pair of polynomials.
 ghost use Rattle.std.specs.Prelude.{◌≡◌, ◌+◌, ◌*◌, ◌<◌, length};
 ghost use Rattle.params.specs.Refusal.{answer};
@@ -39,7 +40,7 @@ fn digits_into(p: Params, off: u32, a: &[u32], i: u32, out: &mut [u32])
 fn pair_digits_into(p: Params, off: u32, a: &[u32], b: &[u32], r: u32, out: &mut [u32])
     requires in_range { InRange p }
     requires r_bound { (r < p.l + p.l) × (off ≡ offset p) × (length a.now ≡ size p) × (length b.now ≡ size p) × (length out.old ≡ size p) }
-    ensures { out.new ≡ pair_digit p (record { a = a.entry.now; b = b.now }) r }
+    ensures { out.new ≡ pair_digit p (record { a = a.now; b = b.now }) r }
 {
     let l = p.l;
     if r < l {
@@ -53,7 +54,7 @@ fn pair_digits_into(p: Params, off: u32, a: &[u32], b: &[u32], r: u32, out: &mut
 fn decompose_into(p: Params, off: u32, a: &[u32], b: &[u32], out: &mut [u32])
     requires in_range { InRange p }
     requires off_value { (off ≡ offset p) × (length a.now ≡ size p) × (length b.now ≡ size p) × (length out.old ≡ (p.l + p.l) * size p) }
-    ensures { out.new ≡ decomposed p (record { a = a.entry.now; b = b.now }) }
+    ensures { out.new ≡ decomposed p (record { a = a.now; b = b.now }) }
 {
     let n = a.len();
     let rows = p.l + p.l;

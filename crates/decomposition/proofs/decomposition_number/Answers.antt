@@ -1,0 +1,15 @@
+-- `decomposition::decomposition_number` meets its contract: its chain is that of the table.
+-- Assumes nothing.
+use mathlib.Core.Path.{refl}
+use mathlib.Core.List.{[], ◌∷◌}
+use Rattle.refusals.specs.Table.{is}
+use Rattle.refusals.proofs.Table.{chained}
+use Rattle.decomposition.specs.Pair.{decomposition_number}
+use Rattle.decomposition.proofs.decomposition_number.Goals as goal
+
+pub returns : goal.returns
+unfolding decomposition_number
+returns c =
+    let a = c.args in
+    rw (c.is.ensures, c.is-number-2.ensures, c.is-number.ensures)
+    (chained a.p (λ s. is a.la s.size 2 ∷ is a.lb s.size 2 ∷ is a.lo s.bitmasks 2 ∷ []) refl c.sizes_of-s.ensures)
