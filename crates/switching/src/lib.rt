@@ -1,3 +1,4 @@
+#![tactic(auto)]
 // Key switching (src/trgsw.rs: `identity_key_switching`).
 ghost use Rattle.std.specs.Prelude.{◌≡◌, ◌+◌, ◌<◌, length};
 ghost use Rattle.params.specs.Refusal.{answer, if_done};
