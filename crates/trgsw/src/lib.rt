@@ -1,3 +1,4 @@
+#![tactic(auto)]
 // The external product of a pair of polynomials with one bit's rows of the bootstrapping key, and the choice that is made with it (src/trgsw.rs).
 ghost use Rattle.std.specs.Prelude.{◌≡◌, ℕ, ◌+◌, ◌*◌, ◌<◌, length};
 ghost use Rattle.ring.specs.Poly.{plus, times};
@@ -23,8 +24,8 @@ fn external_row(
 )
     requires p_value { params_number p ≡ 0 }
     requires r_bound { (r < p.l + p.l) × (length rows.now ≡ bit_words p) × (length a.now ≡ size p) × (length b.now ≡ size p) × (length d.old ≡ size p) × (length outa.old ≡ size p) × (length outb.old ≡ size p) }
-    ensures outa_after { outa.new ≡ plus (size p) outa.old (times (size p) (pair_digit p (record { a = a.entry.now; b = b.now }) r) (row_a p rows.now r)) }
-    ensures outb_after { outb.new ≡ plus (size p) outb.old (times (size p) (pair_digit p (record { a = a.entry.now; b = b.now }) r) (row_b p rows.now r)) }
+    ensures outa_after { outa.new ≡ plus (size p) outa.old (times (size p) (pair_digit p (record { a = a.now; b = b.now }) r) (row_a p rows.now r)) }
+    ensures outb_after { outb.new ≡ plus (size p) outb.old (times (size p) (pair_digit p (record { a = a.now; b = b.now }) r) (row_b p rows.now r)) }
 {
     let n = a.len();
     let row = (r as usize) * (n + n);
@@ -47,8 +48,8 @@ fn external_rows(
 )
     requires p_value { params_number p ≡ 0 }
     requires rows_len { (length rows.now ≡ bit_words p) × (length a.now ≡ size p) × (length b.now ≡ size p) × (length d.old ≡ size p) × (length outa.old ≡ size p) × (length outb.old ≡ size p) }
-    ensures outa_after { outa.new ≡ plus (size p) (external p rows.now (record { a = a.entry.now; b = b.now })).a outa.old }
-    ensures outb_after { outb.new ≡ plus (size p) (external p rows.now (record { a = a.entry.now; b = b.now })).b outb.old }
+    ensures outa_after { outa.new ≡ plus (size p) (external p rows.now (record { a = a.now; b = b.now })).a outa.old }
+    ensures outb_after { outb.new ≡ plus (size p) (external p rows.now (record { a = a.now; b = b.now })).b outb.old }
 {
     let count = p.l + p.l;
     let mut r: u32 = 0;
@@ -62,8 +63,8 @@ fn external_rows(
 fn add_external(p: Params, rows: &[u32], a: &[u32], b: &[u32], outa: &mut [u32], outb: &mut [u32])
     requires p_value { params_number p ≡ 0 }
     requires rows_len { (length rows.now ≡ bit_words p) × (length a.now ≡ size p) × (length b.now ≡ size p) × (length outa.old ≡ size p) × (length outb.old ≡ size p) }
-    ensures outa_after { outa.new ≡ plus (size p) (external p rows.now (record { a = a.entry.now; b = b.now })).a outa.old }
-    ensures outb_after { outb.new ≡ plus (size p) (external p rows.now (record { a = a.entry.now; b = b.now })).b outb.old }
+    ensures outa_after { outa.new ≡ plus (size p) (external p rows.now (record { a = a.now; b = b.now })).a outa.old }
+    ensures outb_after { outb.new ≡ plus (size p) (external p rows.now (record { a = a.now; b = b.now })).b outb.old }
 {
     let n = a.len();
     let mut d = [0u32; 1024];
@@ -74,8 +75,8 @@ fn add_external(p: Params, rows: &[u32], a: &[u32], b: &[u32], outa: &mut [u32],
 fn put_external(p: Params, rows: &[u32], a: &[u32], b: &[u32], outa: &mut [u32], outb: &mut [u32])
     requires p_value { params_number p ≡ 0 }
     requires rows_len { (length rows.now ≡ bit_words p) × (length a.now ≡ size p) × (length b.now ≡ size p) × (length outa.old ≡ size p) × (length outb.old ≡ size p) }
-    ensures outa_after { outa.new ≡ (external p rows.now (record { a = a.entry.now; b = b.now })).a }
-    ensures outb_after { outb.new ≡ (external p rows.now (record { a = a.entry.now; b = b.now })).b }
+    ensures outa_after { outa.new ≡ (external p rows.now (record { a = a.now; b = b.now })).a }
+    ensures outb_after { outb.new ≡ (external p rows.now (record { a = a.now; b = b.now })).b }
 {
     words::fill(0, outa);
     words::fill(0, outb);
@@ -162,8 +163,8 @@ pub fn external_product(
     outb: &mut [u32],
 ) -> Answer
     ensures said { result ≡ answer (external_number p (length rows.now) (length a.now) (length b.now) (length outa.old) (length outb.old)) }
-    ensures first { outa.new ≡ (external_out p rows.now (record { a = a.entry.now; b = b.now }) (record { a = outa.old; b = outb.old })).a }
-    ensures second { outb.new ≡ (external_out p rows.now (record { a = a.entry.now; b = b.now }) (record { a = outa.old; b = outb.old })).b }
+    ensures first { outa.new ≡ (external_out p rows.now (record { a = a.now; b = b.now }) (record { a = outa.old; b = outb.old })).a }
+    ensures second { outb.new ≡ (external_out p rows.now (record { a = a.now; b = b.now }) (record { a = outa.old; b = outb.old })).b }
 {
     let number = external_number(p, rows.len(), a.len(), b.len(), outa.len(), outb.len());
     if number == 0 {
@@ -182,8 +183,8 @@ pub fn external_product_add(
     outb: &mut [u32],
 ) -> Answer
     ensures said { result ≡ answer (external_number p (length rows.now) (length a.now) (length b.now) (length outa.old) (length outb.old)) }
-    ensures first { outa.new ≡ (external_add_out p rows.now (record { a = a.entry.now; b = b.now }) (record { a = outa.old; b = outb.old })).a }
-    ensures second { outb.new ≡ (external_add_out p rows.now (record { a = a.entry.now; b = b.now }) (record { a = outa.old; b = outb.old })).b }
+    ensures first { outa.new ≡ (external_add_out p rows.now (record { a = a.now; b = b.now }) (record { a = outa.old; b = outb.old })).a }
+    ensures second { outb.new ≡ (external_add_out p rows.now (record { a = a.now; b = b.now }) (record { a = outa.old; b = outb.old })).b }
 {
     let number = external_number(p, rows.len(), a.len(), b.len(), outa.len(), outb.len());
     if number == 0 {
