@@ -1,7 +1,7 @@
 -- Where the identity of a rotation starts and what it turns by: the phase of a vector whose a is zero, as the gates' and a table's, is its b, and the amount turned is b's
 -- amount plus the sum of the masks' under the key, modulo 2N.
 -- Assumes nothing.
-use mathlib.Core.Path.{◌≡◌, sym, ap, ◌∙◌}
+use mathlib.Core.Path.{◌≡◌, ap, ◌∙◌}
 use mathlib.Core.List.{List}
 use Prim.Native.Nat.{ℕ, zero, suc, ◌+◌, ◌-◌, ◌*◌, ◌%◌, ◌^◌, ◌<◌}
 use native.Mathlib.Nat.{mod-add-mod, zero-mul}

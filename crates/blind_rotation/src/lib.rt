@@ -1,3 +1,4 @@
+#![tactic(auto)]
 // Blind rotation (src/trgsw.rs, `blind_rotate`): its step, which is a routine of its own, and the whole; that of a lent vector stands in vector.rt.
 ghost use Rattle.std.specs.Prelude.{◌≡◌, ◌+◌, ◌*◌, ◌≤◌, ◌<◌, length};
 ghost use Rattle.params.specs.Refusal.{answer};
@@ -25,8 +26,8 @@ fn step_by(
 )
     requires p_value { params_number p ≡ 0 }
     requires k_bound { (k.0 ≤ size p + size p) × (length rows.now ≡ bit_words p) × (length ta.old ≡ size p) × (length tb.old ≡ size p) × (length a.old ≡ size p) × (length b.old ≡ size p) }
-    ensures a_value { a.exit.now ≡ (cmux_of p rows.now (record { a = a.entry.now; b = b.old }) (turned p k.0 (record { a = a.entry.now; b = b.old }))).a }
-    ensures b_after { b.new ≡ (cmux_of p rows.now (record { a = a.entry.now; b = b.old }) (turned p k.0 (record { a = a.entry.now; b = b.old }))).b }
+    ensures a_value { a.new ≡ (cmux_of p rows.now (record { a = a.old; b = b.old }) (turned p k.0 (record { a = a.old; b = b.old }))).a }
+    ensures b_after { b.new ≡ (cmux_of p rows.now (record { a = a.old; b = b.old }) (turned p k.0 (record { a = a.old; b = b.old }))).b }
 {
     rotation::poly_mul_with_x_k(p, a, k, ta);
     rotation::poly_mul_with_x_k(p, b, k, tb);
@@ -48,8 +49,8 @@ fn step_at(
 )
     requires p_value { params_number p ≡ 0 }
     requires i_lt_n { (i < p.n) × (length key.now ≡ bootstrapping_words p) × (length ta.old ≡ size p) × (length tb.old ≡ size p) × (length a.old ≡ size p) × (length b.old ≡ size p) }
-    ensures a_value { a.exit.now ≡ (blind_step p key.now i mask.0 (record { a = a.entry.now; b = b.old })).a }
-    ensures b_after { b.new ≡ (blind_step p key.now i mask.0 (record { a = a.entry.now; b = b.old })).b }
+    ensures a_value { a.new ≡ (blind_step p key.now i mask.0 (record { a = a.old; b = b.old })).a }
+    ensures b_after { b.new ≡ (blind_step p key.now i mask.0 (record { a = a.old; b = b.old })).b }
 {
     let rounded = rotation::mask_amount(p, mask);
     let k = rounded.amount;
@@ -69,8 +70,8 @@ fn all_steps(
 )
     requires p_value { params_number p ≡ 0 }
     requires src_len { (length src.now ≡ p.n + 1) × (length key.now ≡ bootstrapping_words p) × (length ta.old ≡ size p) × (length tb.old ≡ size p) × (length a.old ≡ size p) × (length b.old ≡ size p) }
-    ensures a_value { a.exit.now ≡ (steps_to p key.now src.now (record { a = a.entry.now; b = b.old }) p.n).a }
-    ensures b_after { b.new ≡ (steps_to p key.now src.now (record { a = a.entry.now; b = b.old }) p.n).b }
+    ensures a_value { a.new ≡ (steps_to p key.now src.now (record { a = a.old; b = b.old }) p.n).a }
+    ensures b_after { b.new ≡ (steps_to p key.now src.now (record { a = a.old; b = b.old }) p.n).b }
 {
     let steps = p.n as usize;
     let mut i = 0;
@@ -92,7 +93,7 @@ pub(crate) fn rotate_from(
 )
     requires p_value { params_number p ≡ 0 }
     requires src_len { (length src.now ≡ p.n + 1) × (length key.now ≡ bootstrapping_words p) × (length ta.old ≡ size p) × (length tb.old ≡ size p) × (length a.old ≡ size p) × (length b.old ≡ size p) }
-    ensures a_value { a.exit.now ≡ (blind_rotated p key.now src.now (record { a = ta.old; b = tb.old })).a }
+    ensures a_value { a.new ≡ (blind_rotated p key.now src.now (record { a = ta.old; b = tb.old })).a }
     ensures b_after { b.new ≡ (blind_rotated p key.now src.now (record { a = ta.old; b = tb.old })).b }
 {
     let last = p.n as usize;
@@ -140,8 +141,8 @@ fn put_rotated(p: Params, src: &[u32], key: &[u32], a: &mut [u32], b: &mut [u32]
 fn put_step(p: Params, key: &[u32], i: usize, mask: Torus, a: &mut [u32], b: &mut [u32])
     requires p_value { params_number p ≡ 0 }
     requires i_lt_n { (i < p.n) × (length key.now ≡ bootstrapping_words p) × (length a.old ≡ size p) × (length b.old ≡ size p) }
-    ensures a_value { a.exit.now ≡ (blind_step p key.now i mask.0 (record { a = a.entry.now; b = b.old })).a }
-    ensures b_after { b.new ≡ (blind_step p key.now i mask.0 (record { a = a.entry.now; b = b.old })).b }
+    ensures a_value { a.new ≡ (blind_step p key.now i mask.0 (record { a = a.old; b = b.old })).a }
+    ensures b_after { b.new ≡ (blind_step p key.now i mask.0 (record { a = a.old; b = b.old })).b }
 {
     let n = a.len();
     let mut ta = [0u32; 1024];
@@ -170,8 +171,8 @@ pub fn blind_rotate_step(
     b: &mut [u32],
 ) -> Answer
     ensures said { result ≡ answer (step_number p (length key.now) i (length a.old) (length b.old)) }
-    ensures first { a.exit.now ≡ (step_out p key.now i mask.0 (record { a = a.entry.now; b = b.old })).a }
-    ensures second { b.new ≡ (step_out p key.now i mask.0 (record { a = a.entry.now; b = b.old })).b }
+    ensures first { a.new ≡ (step_out p key.now i mask.0 (record { a = a.old; b = b.old })).a }
+    ensures second { b.new ≡ (step_out p key.now i mask.0 (record { a = a.old; b = b.old })).b }
 {
     let number = step_number(p, key.len(), i, a.len(), b.len());
     if number == 0 {
@@ -194,8 +195,8 @@ fn blind_number(p: Params, ls: usize, lk: usize, la: usize, lb: usize) -> u32
 // The gates' start vector rotated by the level-0 ciphertext src, into (a, b): the fold of the steps. Refusals: 1, 2.
 pub fn blind_rotate(p: Params, src: &[u32], key: &[u32], a: &mut [u32], b: &mut [u32]) -> Answer
     ensures said { result ≡ answer (blind_number p (length src.now) (length key.now) (length a.old) (length b.old)) }
-    ensures first { a.exit.now ≡ (blind_out p src.now key.now (record { a = a.entry.now; b = b.old })).a }
-    ensures second { b.new ≡ (blind_out p src.now key.now (record { a = a.entry.now; b = b.old })).b }
+    ensures first { a.new ≡ (blind_out p src.now key.now (record { a = a.old; b = b.old })).a }
+    ensures second { b.new ≡ (blind_out p src.now key.now (record { a = a.old; b = b.old })).b }
 {
     let number = blind_number(p, src.len(), key.len(), a.len(), b.len());
     if number == 0 {

@@ -23,7 +23,7 @@ fn rotate_copy(
 )
     requires p_value { params_number p ≡ 0 }
     requires src_len { (length src.now ≡ p.n + 1) × (length va.now ≡ size p) × (length vb.now ≡ size p) × (length key.now ≡ bootstrapping_words p) × (length ta.old ≡ size p) × (length tb.old ≡ size p) × (length a.old ≡ size p) × (length b.old ≡ size p) }
-    ensures a_value { a.exit.now ≡ (blind_rotated p key.now src.now (record { a = va.now; b = vb.now })).a }
+    ensures a_value { a.new ≡ (blind_rotated p key.now src.now (record { a = va.now; b = vb.now })).a }
     ensures b_after { b.new ≡ (blind_rotated p key.now src.now (record { a = va.now; b = vb.now })).b }
 {
     words::copy(va, ta);
@@ -43,7 +43,7 @@ fn put_rotated(
 )
     requires p_value { params_number p ≡ 0 }
     requires src_len { (length src.now ≡ p.n + 1) × (length va.now ≡ size p) × (length vb.now ≡ size p) × (length key.now ≡ bootstrapping_words p) × (length a.old ≡ size p) × (length b.old ≡ size p) }
-    ensures a_value { a.exit.now ≡ (blind_rotated p key.now src.now (record { a = va.now; b = vb.now })).a }
+    ensures a_value { a.new ≡ (blind_rotated p key.now src.now (record { a = va.now; b = vb.now })).a }
     ensures b_after { b.new ≡ (blind_rotated p key.now src.now (record { a = va.now; b = vb.now })).b }
 {
     let n = a.len();
@@ -84,8 +84,8 @@ pub fn blind_rotate_with_testvec(
     b: &mut [u32],
 ) -> Answer
     ensures said { result ≡ answer (vector_number p (length src.now) (length va.now) (length vb.now) (length key.now) (length a.old) (length b.old)) }
-    ensures first { a.exit.now ≡ (vector_out p src.now (record { a = va.now; b = vb.now }) key.now (record { a = a.entry.now; b = b.old })).a }
-    ensures second { b.new ≡ (vector_out p src.now (record { a = va.now; b = vb.now }) key.now (record { a = a.entry.now; b = b.old })).b }
+    ensures first { a.new ≡ (vector_out p src.now (record { a = va.now; b = vb.now }) key.now (record { a = a.old; b = b.old })).a }
+    ensures second { b.new ≡ (vector_out p src.now (record { a = va.now; b = vb.now }) key.now (record { a = a.old; b = b.old })).b }
 {
     let number = vector_number(
         p,
