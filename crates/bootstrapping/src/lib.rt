@@ -1,3 +1,4 @@
+#![tactic(auto)]
 // Generation of the bootstrapping key (`encrypt_torus` of src/trgsw.rs and `gen_bootstrapping_key` of src/key.rs), as coefficients and from lent masks
 // and noise (01, key).
 ghost use Rattle.std.specs.Prelude.{◌≡◌, length};
