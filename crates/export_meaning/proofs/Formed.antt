@@ -17,7 +17,7 @@ use Rattle.bristol_form.specs.Says.{gates, wires, input_values, inputs, output_v
 use Rattle.bristol_form.specs.Valid.{Fits, binary, unary, constant, GoodGate, InForm}
 use Rattle.export_meaning.proofs.Before.{Before, at_end}
 use Rattle.export_meaning.proofs.Line.{Said, operands_of}
-use Rattle.export_meaning.proofs.Lines.{Line, lines_text, line_at, Ordered, Bodied, left, gate_said}
+use Rattle.export_meaning.proofs.Lines.{Line, lines_text, line_at, Bodied, left, gate_said}
 
 -- one more
 below_next : (w m : ℕ) → (ltb w m || eqb w m) ≡ ltb w (suc m)

@@ -9,7 +9,7 @@ use Rattle.ring.specs.Sums.{sum_to}
 use Rattle.tokens.specs.Tokens.{word_of, end_of, past, number_at, no_number, number_of}
 use Rattle.bristol_form.specs.Says.{gates, wires, input_values, sizes_to, input_sizes, inputs, output_values, output_sizes, outputs, body}
 use Rattle.report.specs.Decimal.{decimal}
-use Rattle.export_meaning.proofs.Before.{Before, pass, TookNumber, take_number}
+use Rattle.export_meaning.proofs.Before.{Before, pass, take_number}
 use Rattle.export_meaning.proofs.Line.{space_blank, line_blank}
 
 pub record HeadSaid (text : List ℕ) (g w i o : ℕ) (rest : List ℕ) : Type 0 where

@@ -11,7 +11,7 @@ use Rattle.tokens.proofs.Printed.{Inked, xor_inked, and_inked, inv_inked, eq_ink
 use Rattle.bristol_form.specs.Says.{operand_count, result_count, operands_place, results_place, name_place, operand, result, gate_name}
 use Rattle.report.specs.Decimal.{decimal, decimal_to}
 use Rattle.bristol_export.specs.Text.{ended, name_end, two_text, one_text, line_text}
-use Rattle.export_meaning.proofs.Before.{Before, Took, TookNumber, take_word, take_number}
+use Rattle.export_meaning.proofs.Before.{Before, take_word, take_number}
 
 pub space_blank : blank 32 ≡ true
 unfolding blank

@@ -27,9 +27,9 @@ use Rattle.bristol_export.specs.Steps.{count, step_at}
 use Rattle.bristol_export.specs.Text.{lines_to, first_wire, last_wire, text_wire, lines, exported}
 use Rattle.bristol_export.proofs.Columns.{count_to, name_entry}
 use Rattle.bristol_export.proofs.Wires.{lines_none, lines_suc, lines_up, wire_below}
-use Rattle.export_meaning.proofs.Lines.{Line, line_at, Bodied}
+use Rattle.export_meaning.proofs.Lines.{Line, line_at}
 use Rattle.export_meaning.proofs.Values.{own_bit, kept_bit}
-use Rattle.export_meaning.proofs.KindLines.{Below, Bits, step_bit, bit_one, bit_two, bit_three, last_bit, last_means, step_bit_lem}
+use Rattle.export_meaning.proofs.KindLines.{step_bit, bit_one, bit_two, bit_three, last_bit, last_means, step_bit_lem}
 use Rattle.export_meaning.proofs.Exported.{gate_line, output_line, all_lines, length_all, gate_line_lem, output_line_lem, wire_before, head_read, bodied}
 
 -- a bit that is handed back is lent as it was

@@ -13,8 +13,7 @@ use lib.ListN.{length}
 use Rattle.circuit.proofs.Accept.{lt_or_ge}
 use Rattle.bristol_form.specs.Says.{gate_at, result_count, operand, result}
 use Rattle.bristol_form.specs.Meaning.{name_meaning, result_bit, after_results, wire_bit}
-use Rattle.export_meaning.proofs.Line.{Said}
-use Rattle.export_meaning.proofs.Lines.{Line, line_at, Ordered, Bodied, gate_said}
+use Rattle.export_meaning.proofs.Lines.{Line, line_at, Bodied, gate_said}
 
 -- INV, EQ and EQW take no notice of a second operand
 pub second_idle : (name x : ℕ) (a b c : Bool) → 3 ≤ name → name ≤ 5 → name_meaning name x a b ≡ name_meaning name x a c
