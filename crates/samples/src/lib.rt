@@ -1,3 +1,4 @@
+#![tactic(auto)]
 // What a gate switches (src/bootstrap/vanilla.rs, before the key switching): the sum of its ciphertexts, rotated, and extracted at 0. The decomposition offset
 // and the test vector are worked out on the way and never lent (01, key).
 ghost use Rattle.std.specs.Prelude.{◌≡◌, ◌+◌, length};
