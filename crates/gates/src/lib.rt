@@ -1,3 +1,4 @@
+#![tactic(auto)]
 // A two-input gate (src/gates.rs): its sample, switched back to level 0.
 ghost use Rattle.std.specs.Prelude.{◌≡◌, length};
 ghost use Rattle.params.specs.Refusal.{answer};
