@@ -1,3 +1,4 @@
+#![tactic(auto)]
 // The ten gates by name, each `gates::gate` with its kind, and the choice a ? b : c (src/gates.rs).
 ghost use Rattle.std.specs.Prelude.{◌≡◌, length};
 ghost use Rattle.params.specs.Refusal.{answer};
