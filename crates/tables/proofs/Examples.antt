@@ -2,8 +2,8 @@
 -- Assumes nothing.
 use mathlib.Core.Path.{◌≡◌, refl}
 use mathlib.Core.Bool.{true, false}
-use mathlib.Core.List.{List, [], ◌∷◌}
-use Prim.Native.Nat.{ℕ, ◌^◌}
+use mathlib.Core.List.{[], ◌∷◌}
+use Prim.Native.Nat.{◌^◌}
 use Rattle.ring.specs.Word.{Q, neg}
 use Rattle.ring.specs.Sums.{tab}
 use Rattle.params.specs.declared.Params.{Params}

@@ -1,3 +1,4 @@
+#![tactic(auto)]
 // Lookup tables on small messages (02, 2026-07). The original has the rotation of a given test vector (`blind_rotate_with_testvec`: blind_rotation/vector.rt) and no way to make one; that is ours.
 ghost use Rattle.std.specs.Prelude.{◌≡◌, length};
 ghost use Rattle.params.specs.Refusal.{answer};
@@ -33,8 +34,8 @@ fn table_number(p: Params, modulus: u64, lf: usize, la: usize, lb: usize) -> u32
 // The test vector (a, b) of the table's modulus words. Refusals: 1, 2, 5.
 pub fn table_testvec(p: Params, modulus: u64, table: &[u32], a: &mut [u32], b: &mut [u32]) -> Answer
     ensures said { result ≡ answer (table_number p modulus (length table.now) (length a.old) (length b.old)) }
-    ensures first { a.exit.now ≡ (table_out p modulus table.now (record { a = a.entry.now; b = b.old })).a }
-    ensures second { b.new ≡ (table_out p modulus table.now (record { a = a.entry.now; b = b.old })).b }
+    ensures first { a.new ≡ (table_out p modulus table.now (record { a = a.old; b = b.old })).a }
+    ensures second { b.new ≡ (table_out p modulus table.now (record { a = a.old; b = b.old })).b }
 {
     let number = table_number(p, modulus, table.len(), a.len(), b.len());
     if number == 0 {
