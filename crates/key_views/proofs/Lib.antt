@@ -1,4 +1,2 @@
-pub mod Thin
-pub mod Making
 pub mod Views
 pub mod Determined

@@ -1,6 +1,7 @@
+#![tactic(auto)]
 // Views of the two keys that a gate is lent, in place of the two vectors of `CloudKey` (src/key.rs; 01, 'What changes shape'): each is a struct that refers to its lent slice, so
 // that neither key stands where the other is wanted. A call takes its views apart and calls the routine of the same name on the slices: refusals, answers and words are that
-// routine's, whatever slice a view refers to. Whoever makes, takes or holds a view is proved by hand, so the calls are few and plain slices serve all else.
+// routine's, whatever slice a view refers to. The calls are few: plain slices serve all else.
 ghost use Rattle.std.specs.Prelude.{◌≡◌, [], length};
 ghost use Rattle.params.specs.Refusal.{answer, if_done};
 ghost use Rattle.params.specs.Sizes.{switching_words, bootstrapping_words};
@@ -16,13 +17,13 @@ use gate_sums::Kind;
 use params::{Answer, Params};
 
 // The lent switching key, the Rust's `key_switching_key`.
-#[derive(Drop)]
+#[derive(Clone, Copy)]
 pub struct SwitchingKey<'a> {
     pub lent: &'a [u32],
 }
 
 // The lent bootstrapping key, the Rust's `bootstrapping_key`.
-#[derive(Drop)]
+#[derive(Clone, Copy)]
 pub struct BootstrappingKey<'a> {
     pub lent: &'a [u32],
 }
@@ -135,8 +136,8 @@ pub fn blind_rotate<'s, 'k, 'a, 'b>(
     b: &'b mut [u32],
 ) -> Answer
     ensures said { result ≡ answer (blind_number p (length src.now) (length key.entry.lent.now) (length a.old) (length b.old)) }
-    ensures first { a.exit.now ≡ (blind_out p src.now key.entry.lent.now (record { a = a.entry.now; b = b.old })).a }
-    ensures second { b.new ≡ (blind_out p src.now key.entry.lent.now (record { a = a.entry.now; b = b.old })).b }
+    ensures first { a.new ≡ (blind_out p src.now key.entry.lent.now (record { a = a.old; b = b.old })).a }
+    ensures second { b.new ≡ (blind_out p src.now key.entry.lent.now (record { a = a.old; b = b.old })).b }
 {
     blind_rotation::blind_rotate(p, src, key.lent, a, b)
 }
