@@ -6,7 +6,6 @@ use mathlib.Core.List.{[], ◌∷◌}
 use Prim.Native.Nat.{ℕ, ◌≤◌}
 use native.Mathlib.Omega.{arith}
 use lib.Dec.{T}
-use Rattle.gate_sums.specs.Kind.{meaning}
 use Rattle.kinds.specs.Kinds.{kinds, kind_of}
 use Rattle.kinds.proofs.Table.{both, both_left, both_right, same, same_is, entry}
 use Rattle.ways.specs.Ways.{ways, way_of}

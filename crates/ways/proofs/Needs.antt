@@ -6,7 +6,7 @@ use Prim.Native.Nat.{ℕ, zero, suc, ◌≤◌, ◌<◌}
 use native.Mathlib.Omega.{arith}
 use lib.Dec.{leb, eqb, eqb→eq, leb→le}
 use lib.ListN.{get_or}
-use Rattle.kinds.specs.Kinds.{kinds, kind_of}
+use Rattle.kinds.specs.Kinds.{kind_of}
 use Rattle.kinds.proofs.Table.{entry}
 use Rattle.kinds.proofs.Columns.{operand_table, operand_entry}
 use Rattle.ways.specs.declared.Way.TheVariants.{Known}

@@ -1,7 +1,7 @@
 -- A kind's work is the number of rotations that its way performs, for every number, the table's or not: tested over the table, and past its end both are 0. A
 -- way's ciphertext depends on the bootstrapping key through these rotations alone, since it is made of their samples; and none of them is idle at n 1 and N 2, which is tested over the table too.
 -- Assumes nothing.
-use mathlib.Core.Path.{◌≡◌, refl, sym, ap, subst, ◌∙◌}
+use mathlib.Core.Path.{◌≡◌, sym, ap, subst, ◌∙◌}
 use mathlib.Core.Bool.{Bool, true, false, not}
 use mathlib.Core.Logic.{⊎_elim}
 use mathlib.Core.List.{List, [], ◌∷◌, map}

@@ -1,3 +1,4 @@
+#![tactic(auto)]
 // One gate of a circuit on ciphertexts (01, 'Circuits'): the way in which each kind is run, that way run, and the ciphertext of a wire among others. It stands above
 // `gates`, and below the runs of whole circuits.
 ghost use Rattle.std.specs.Prelude.{◌≡◌, ◌+◌, ◌*◌, length};
@@ -15,7 +16,7 @@ use params::{Answer, Params};
 
 // How a gate of a circuit is run on ciphertexts: a known bit, the first operand negated, a two-input gate, one whose result is negated, or a choice by the
 // first operand.
-#[derive(Drop)]
+#[derive(Clone, Copy)]
 pub enum Way {
     Known(bool),
     Negated,

@@ -3,10 +3,10 @@
 use mathlib.Core.Path.{◌≡◌, refl, sym, ap}
 use mathlib.Core.Bool.{false}
 use Prim.Native.Nat.{ℕ, zero, suc}
+use Rattle.std.proofs.Common.{arith}
 use Rattle.ways.specs.declared.Way.TheVariants.{Known}
 use Rattle.ways.specs.Ways.{ways, way_of}
-use Rattle.ways.proofs.way_of.Statement.{statement}
-use Rattle.ways.proofs.way_of.Tie as tie
+use Rattle.ways.proofs.way_of.Goals as goal
 
 -- none of the patterns
 past : (k : ℕ) → (k ≡ 1 → ⊥) → (k ≡ 2 → ⊥) → (k ≡ 3 → ⊥) → (k ≡ 4 → ⊥) → (k ≡ 5 → ⊥) → (k ≡ 6 → ⊥) → (k ≡ 7 → ⊥) → (k ≡ 8 → ⊥) → (k ≡ 9 → ⊥) → (k ≡ 10 → ⊥) → (k ≡ 11 → ⊥) → (k ≡ 12 → ⊥) → (k ≡ 13 → ⊥) → way_of k ≡ Known false
@@ -27,62 +27,58 @@ past (suc (suc (suc (suc (suc (suc (suc (suc (suc (suc (suc (suc zero)))))))))))
 past (suc (suc (suc (suc (suc (suc (suc (suc (suc (suc (suc (suc (suc zero))))))))))))) h1 h2 h3 h4 h5 h6 h7 h8 h9 h10 h11 h12 h13 = absurd (h13 refl)
 past (suc (suc (suc (suc (suc (suc (suc (suc (suc (suc (suc (suc (suc (suc k)))))))))))))) h1 h2 h3 h4 h5 h6 h7 h8 h9 h10 h11 h12 h13 = refl
 
-returns : tie.Need-returns
+pub returns-in-1 : goal.returns-in-1
 unfolding way_of ways
-returns c = sym (ap way_of c.match.keys1)
+returns-in-1 c = sym (ap way_of c.in-1.is)
 
-returns-2 : tie.Need-returns-2
+pub returns-in-2 : goal.returns-in-2
 unfolding way_of ways
-returns-2 c = sym (ap way_of c.match.keys2)
+returns-in-2 c = sym (ap way_of c.in-2.is)
 
-returns-3 : tie.Need-returns-3
+pub returns-in-3 : goal.returns-in-3
 unfolding way_of ways
-returns-3 c = sym (ap way_of c.match.keys3)
+returns-in-3 c = sym (ap way_of c.in-3.is)
 
-returns-4 : tie.Need-returns-4
+pub returns-in-4 : goal.returns-in-4
 unfolding way_of ways
-returns-4 c = sym (ap way_of c.match.keys4)
+returns-in-4 c = sym (ap way_of c.in-4.is)
 
-returns-5 : tie.Need-returns-5
+pub returns-in-5 : goal.returns-in-5
 unfolding way_of ways
-returns-5 c = sym (ap way_of c.match.keys5)
+returns-in-5 c = sym (ap way_of c.in-5.is)
 
-returns-6 : tie.Need-returns-6
+pub returns-in-6 : goal.returns-in-6
 unfolding way_of ways
-returns-6 c = sym (ap way_of c.match.keys6)
+returns-in-6 c = sym (ap way_of c.in-6.is)
 
-returns-7 : tie.Need-returns-7
+pub returns-in-7 : goal.returns-in-7
 unfolding way_of ways
-returns-7 c = sym (ap way_of c.match.keys7)
+returns-in-7 c = sym (ap way_of c.in-7.is)
 
-returns-8 : tie.Need-returns-8
+pub returns-in-8 : goal.returns-in-8
 unfolding way_of ways
-returns-8 c = sym (ap way_of c.match.keys8)
+returns-in-8 c = sym (ap way_of c.in-8.is)
 
-returns-9 : tie.Need-returns-9
+pub returns-in-9 : goal.returns-in-9
 unfolding way_of ways
-returns-9 c = sym (ap way_of c.match.keys9)
+returns-in-9 c = sym (ap way_of c.in-9.is)
 
-returns-10 : tie.Need-returns-10
+pub returns-in-10 : goal.returns-in-10
 unfolding way_of ways
-returns-10 c = sym (ap way_of c.match.keys10)
+returns-in-10 c = sym (ap way_of c.in-10.is)
 
-returns-11 : tie.Need-returns-11
+pub returns-in-11 : goal.returns-in-11
 unfolding way_of ways
-returns-11 c = sym (ap way_of c.match.keys11)
+returns-in-11 c = sym (ap way_of c.in-11.is)
 
-returns-12 : tie.Need-returns-12
+pub returns-in-12 : goal.returns-in-12
 unfolding way_of ways
-returns-12 c = sym (ap way_of c.match.keys12)
+returns-in-12 c = sym (ap way_of c.in-12.is)
 
-returns-13 : tie.Need-returns-13
+pub returns-in-13 : goal.returns-in-13
 unfolding way_of ways
-returns-13 c = sym (ap way_of c.match.keys13)
+returns-in-13 c = sym (ap way_of c.in-13.is)
 
-returns-14 : tie.Need-returns-14
-returns-14 c = let r = c.match.rest in sym (past _ r.0.0.0.0.0.0.0.0.0.0.0.0.1 r.0.0.0.0.0.0.0.0.0.0.0.1 r.0.0.0.0.0.0.0.0.0.0.1 r.0.0.0.0.0.0.0.0.0.1 r.0.0.0.0.0.0.0.0.1 r.0.0.0.0.0.0.0.1 r.0.0.0.0.0.0.1 r.0.0.0.0.0.1 r.0.0.0.0.1 r.0.0.0.1 r.0.0.1 r.0.1 r.1)
-
-pub way_of_spec : {M : Type 1} → statement M
-way_of_spec =
-    tie.close
-    (tie.spec returns returns-2 returns-3 returns-4 returns-5 returns-6 returns-7 returns-8 returns-9 returns-10 returns-11 returns-12 returns-13 returns-14)
+pub returns-in_default : goal.returns-in_default
+returns-in_default c =
+    sym (past _ (λ e. omega arith) (λ e. omega arith) (λ e. omega arith) (λ e. omega arith) (λ e. omega arith) (λ e. omega arith) (λ e. omega arith) (λ e. omega arith) (λ e. omega arith) (λ e. omega arith) (λ e. omega arith) (λ e. omega arith) (λ e. omega arith))
