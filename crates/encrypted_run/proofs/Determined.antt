@@ -4,7 +4,7 @@ use Rattle.ring.proofs.Outcomes.{Determined, said, said_written, said_written_tw
 use Rattle.encrypted_run.proofs.around as around
 use Rattle.encrypted_run.specs.contracts.around as around_c
 use Rattle.encrypted_run.proofs.lengths_of as lengths_of_call
-use Rattle.encrypted_run.specs.contracts.lengths_of as lengths_of_call_c
+use Rattle.encrypted_run.specs.contracts.lengths_of as lengths_of_c
 use Rattle.encrypted_run.proofs.run_gate as run_gate
 use Rattle.encrypted_run.specs.contracts.run_gate as run_gate_c
 use Rattle.encrypted_run.proofs.run_encrypted as run_encrypted
@@ -13,7 +13,7 @@ use Rattle.encrypted_run.specs.contracts.run_encrypted as run_encrypted_c
 pub around_determined : Determined around_c.ended around.Reads.Learnt
 around_determined κs a x y v w = said
 
-pub lengths_of_determined : Determined lengths_of_call_c.ended lengths_of_call.Reads.Learnt
+pub lengths_of_determined : Determined lengths_of_c.ended lengths_of_call.Reads.Learnt
 lengths_of_determined κs a x y v w = said
 
 pub run_gate_determined : Determined run_gate_c.ended run_gate.Reads.Learnt

@@ -1,8 +1,8 @@
 -- Which rows of a switching key two keys must share to be alike for a sample: those of its fields that are not 0 and no other. Each field computes.
 -- Assumes nothing.
-use mathlib.Core.Path.{◌≡◌, refl}
-use mathlib.Core.List.{List, [], ◌∷◌}
-use Prim.Native.Nat.{ℕ, zero, suc}
+use mathlib.Core.Path.{refl}
+use mathlib.Core.List.{[], ◌∷◌}
+use Prim.Native.Nat.{zero, suc}
 use native.Mathlib.Omega.{arith}
 use Rattle.ring.specs.Word.{Q, field_of}
 use Rattle.ring.specs.Lists.{part}

@@ -20,7 +20,7 @@ use Rattle.circuit.specs.Form.{gates, kind_at, operand_at}
 use Rattle.circuit.specs.Valid.{Valid}
 use Rattle.circuit.specs.Plain.{work_of, worked, work_answer}
 use Rattle.circuit.proofs.Accept.{not_refused}
-use Rattle.ways.specs.Ways.{way_of, rotated_sums, made, ran}
+use Rattle.ways.specs.Ways.{way_of, made, ran}
 use Rattle.ways.specs.Ciphers.{cipher_at}
 use Rattle.ways.proofs.Work.{sums_counted, rotated_alike}
 use Rattle.encrypted_run.specs.Private.{RunGood}

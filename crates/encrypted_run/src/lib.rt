@@ -1,3 +1,4 @@
+#![tactic(auto)]
 // The encrypted run of a circuit (01, 'Circuits'): every wire's ciphertext, gate after gate, and then the outputs'. It stands above `ways` and
 // `circuit`; one gate of a run is a routine of its own, since a run of 1,024 gates takes long.
 ghost use Rattle.std.specs.Prelude.{◌≡◌, length};
@@ -9,7 +10,7 @@ use params::{Answer, Params};
 mod steps;
 
 // The numbers of a circuit's inputs and wires, and the words of the inputs', the wires' and the outputs' ciphertexts.
-#[derive(Drop)]
+#[derive(Clone, Copy)]
 pub struct Lengths {
     pub inputs: usize,
     pub wires: usize,

@@ -7,20 +7,15 @@ use Rattle.refusals.specs.Table.{is, first_of}
 use Rattle.refusals.proofs.Table.{chain_first}
 use Rattle.encrypted_run.specs.declared.Lengths.{Lengths}
 use Rattle.encrypted_run.specs.Refusals.{around, lengths_of, encrypted_answer}
-use Rattle.encrypted_run.proofs.run_answer.Statement.{statement}
-use Rattle.encrypted_run.proofs.run_answer.Tie as tie
+use Rattle.encrypted_run.proofs.run_answer.Goals as goal
 
-returns : tie.Need-returns
+pub returns : goal.returns
 unfolding encrypted_answer lengths_of
 returns c =
-    let a = c.before.before.before.before.before.before.before.args in
-    let t = c.before.before.before.before.before.lengths-of in
+    let a = c.args in
+    let t = c.lengths_of-t in
     let lengths = chain_first (is a.li t.result.ins 2 ∷ is a.lo t.result.outs 2 ∷ is a.lw t.result.held 2 ∷ []) refl in
     c.around.ensures
-    ∙ ap₂ (λ (x y : ℕ). around x a.bytes.now y) c.before.material-number.ensures
-    (rw (c.before.before.is3.ensures, c.before.before.before.is2.ensures, c.before.before.before.before.is.ensures) lengths
+    ∙ ap₂ (λ (x y : ℕ). around x a.bytes.now y) c.material_number.ensures
+    (rw (c.is-last-3.ensures, c.is-last-2.ensures, c.is-last.ensures) lengths
     ∙ ap (λ (l : Lengths). first_of (is a.li l.ins 2 ∷ is a.lo l.outs 2 ∷ is a.lw l.held 2 ∷ [])) t.ensures)
-
-pub run_answer_spec : {M : Type 1} → statement M
-run_answer_spec = tie.close
-    (tie.spec (λ c κs. tt) (λ c κs. tt) (λ c κs. tt) (λ c κs. tt) (λ c κs. tt) (λ c κs. tt) returns)
