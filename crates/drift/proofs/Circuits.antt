@@ -4,15 +4,14 @@
 use mathlib.Core.Path.{◌≡◌, refl, sym, ap, ap₂, ◌∙◌}
 use mathlib.Core.Logic.{⊎_elim}
 use mathlib.Core.Bool.{Bool, true, false}
-use mathlib.Core.List.{List, [], ◌∷◌, ◌++◌}
+use mathlib.Core.List.{List, [], ◌∷◌}
 use Prim.Native.Nat.{ℕ, zero, suc, ◌+◌, ◌*◌, ◌%◌, ◌≤◌, ◌<◌}
-use native.Mathlib.Nat.{add-suc, add-zero, mod-lt, mod-eq_of_lt}
+use native.Mathlib.Nat.{add-zero, mod-lt}
 use native.Mathlib.Omega.{arith}
 use lib.Dec.{lit<}
-use lib.ListN.{length, get_or, length-append, get_or-append}
+use lib.ListN.{length, length-append, get_or-append}
 use lib.Seq.{get_or_at}
 use Rattle.ring.specs.Word.{Q, Q_pos, at, neg}
-use Rattle.ring.specs.Sums.{tab}
 use Rattle.ring.specs.Phase.{phase_of}
 use Rattle.ring.proofs.Tab.{at-tab, length-tab}
 use Rattle.params.specs.declared.Params.{Params}
@@ -26,7 +25,7 @@ use Rattle.circuit.specs.Valid.{Valid}
 use Rattle.circuit.proofs.Accept.{lt_or_ge}
 use Rattle.circuit.proofs.Wires.{length_wires}
 use Rattle.ways.specs.Ways.{way_of}
-use Rattle.ways.specs.Private.{operands_of, way_meaning}
+use Rattle.ways.specs.Private.{operands_of}
 use Rattle.ways.specs.Ciphers.{cipher_at}
 use Rattle.encrypted_run.specs.Run.{gate_cipher, ciphers_to}
 use Rattle.ways.proofs.Ciphers.{wire_within, cipher_front, cipher_next}

@@ -1,11 +1,11 @@
 -- What a gate means, over any key material (the per-gate form of demand 3): where the brought-in drift is inside, the phase of the result is ±2^29 by
 -- the kind's Boolean meaning plus the drift that 01 reckons.
 -- Assumes nothing.
-use mathlib.Core.Path.{◌≡◌, refl, sym, ap, ap₂, ◌∙◌}
+use mathlib.Core.Path.{◌≡◌, refl, ap, ap₂, ◌∙◌}
 use mathlib.Core.Bool.{Bool, true, false, not, cond, ◌&&◌}
 use mathlib.Core.List.{List}
-use Prim.Native.Nat.{ℕ, ◌+◌, ◌*◌, ◌-◌, ◌%◌, ◌^◌, ◌≤◌, ◌<◌}
-use native.Mathlib.Nat.{mod-lt, add-mod, mod-add-mod}
+use Prim.Native.Nat.{ℕ, ◌+◌, ◌%◌, ◌<◌}
+use native.Mathlib.Nat.{mod-lt}
 use native.Mathlib.Omega.{arith}
 use Rattle.ring.specs.Word.{Q, Q_pos, at, neg, eighth}
 use Rattle.ring.specs.Poly.{plus}
@@ -17,17 +17,16 @@ use Rattle.tlwe.specs.Plain.{bit_word}
 use Rattle.tlwe.specs.Linear.{negative}
 use Rattle.gate_sums.specs.declared.Kind.{Kind}
 use Rattle.gate_sums.specs.declared.Kind.TheVariants.{Or, And, AndNy}
-use Rattle.gate_sums.specs.Kind.{meaning, sum_of, stands_for}
-use Rattle.gate_sums.specs.Sum.{summed, mux_sum}
-use Rattle.gates.specs.Gate.{bootstrapped, gated, muxed, muxed_naive}
-use Rattle.drift.specs.PrivateWords.{rounding_word, brought_word, extracted_word, gate_word, mux_word}
+use Rattle.gate_sums.specs.Kind.{meaning, sum_of}
+use Rattle.gate_sums.specs.Sum.{summed}
+use Rattle.gates.specs.Gate.{gated, muxed, muxed_naive}
+use Rattle.drift.specs.PrivateWords.{brought_word, gate_word, mux_word}
 use Rattle.gate_sums.proofs.Tables.{table}
 use Rattle.drift.specs.PrivateShort.{side_of}
 use Rattle.drift.proofs.Round.{side_is}
 use Rattle.drift.proofs.Sides.{gate_side, mux_side}
 use Rattle.drift.proofs.Phases.{brought, not_drift}
 use Rattle.ring.specs.Phase.{phase_of}
-use Rattle.samples.specs.Sample.{rotated_sample}
 use Rattle.drift_size.specs.Size.{inside_word}
 
 either : (va vb vc : Bool) → meaning Or (va && vb) (not va && vc) ≡ cond va vb vc

@@ -8,7 +8,7 @@ use mathlib.Core.List.{List, [], ◌∷◌, ◌++◌}
 use Prim.Native.Nat.{ℕ, zero, suc, ◌+◌, ◌*◌, ◌≤◌, ◌<◌}
 use native.Mathlib.Nat.{eq-zero-or-pos}
 use native.Mathlib.Omega.{arith}
-use lib.Dec.{eqb, lit<}
+use lib.Dec.{lit<}
 use lib.ListN.{length}
 use Rattle.ring.specs.Word.{at}
 use Rattle.params.specs.declared.Params.{Params}
@@ -16,7 +16,7 @@ use Rattle.params.specs.Ranges.{InRange}
 use Rattle.tlwe.specs.Key.{binary}
 use Rattle.circuit.specs.Form.{inputs, gates, kind_at, operand_at}
 use Rattle.circuit.specs.Valid.{Valid}
-use Rattle.ways.specs.Ways.{way_of, rotations_of, ran}
+use Rattle.ways.specs.Ways.{way_of, rotations_of}
 use Rattle.ways.specs.Ciphers.{cipher_at}
 use Rattle.encrypted_run.specs.Run.{gate_cipher, ciphers_to, ciphers_of}
 use Rattle.ways.proofs.Needs.{known_way}

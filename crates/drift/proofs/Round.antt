@@ -1,15 +1,14 @@
 -- Where a rotation ends: the amounts turned, in steps, are less the sum's phase and what rounding brings in; so with a brought-in drift inside, the
 -- place that comes to the front lies in the half of the turn that the sum's eighths name.
 -- Assumes nothing.
-use mathlib.Core.Path.{◌≡◌, refl, sym, ap, ap₂, ◌∙◌}
+use mathlib.Core.Path.{◌≡◌, sym, ap, ap₂, ◌∙◌}
 use mathlib.Core.Bool.{Bool, true, false}
 use mathlib.Core.Logic.{◌⊎◌, inl, inr}
 use mathlib.Core.List.{List}
-use Prim.Native.Nat.{ℕ, zero, suc, ◌+◌, ◌*◌, ◌-◌, ◌/◌, ◌%◌, ◌^◌, ◌≤◌, ◌<◌}
+use Prim.Native.Nat.{ℕ, ◌+◌, ◌*◌, ◌-◌, ◌/◌, ◌%◌, ◌≤◌, ◌<◌}
 use native.Mathlib.Nat.{mod-lt, mod-eq_of_lt, mod_self, div-add-mod, add-mul-div_right, add-mul-mod_self_left, mul-le-mul_right}
 use native.Mathlib.Decide.{ℕ_discrete, dec_lt}
 use native.Mathlib.Omega.{arith}
-use lib.Dec.{ltb, eqb}
 use borrow.Author.Tests.{ltb-true, eqb-true, ne_eqb, lt-ltb, le-ltb}
 use Rattle.ring.specs.Word.{Q, Q_pos, at, neg, eighth}
 use Rattle.ring.specs.Sums.{sum_to}
@@ -24,10 +23,7 @@ use Rattle.params.specs.Sizes.{size}
 use Rattle.rotation.specs.Amount.{half, step, mask_amount, body_amount}
 use Rattle.rotation.proofs.Amounts.{turn_steps, step_halves, half_pos, body_steps}
 use Rattle.params.proofs.Ranges.{size_from}
-use Rattle.ring.specs.Turn.{negating}
-use Rattle.ring.proofs.Tab.{at-tab}
 use Rattle.ring.proofs.Centre.{Q_is}
-use Rattle.key.specs.Testvec.{test_pair}
 use Rattle.tlwe.specs.Plain.{bit_word}
 use Rattle.tlwe.specs.Decrypt.{bit_of}
 use Rattle.tlwe.proofs.Inverse.{inside_cases, bit_back}

@@ -1,6 +1,6 @@
 -- The short way is the drift: a way's ciphertext has the phase that its sides put into it plus its drift, whatever the drifts are, so the drift is the phase less that.
 -- Assumes nothing.
-use mathlib.Core.Path.{◌≡◌, refl, sym, ap, ◌∙◌}
+use mathlib.Core.Path.{◌≡◌, refl, ap, ◌∙◌}
 use mathlib.Core.Bool.{true}
 use mathlib.Core.List.{List}
 use Prim.Native.Nat.{ℕ, ◌+◌, ◌%◌, ◌<◌}

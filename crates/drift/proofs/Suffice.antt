@@ -4,11 +4,10 @@
 use mathlib.Core.Path.{◌≡◌, refl, sym, ap, ◌∙◌}
 use mathlib.Core.Bool.{Bool, true, false}
 use mathlib.Core.List.{List}
-use Prim.Native.Nat.{ℕ, ◌+◌, ◌*◌, ◌%◌, ◌<◌}
-use native.Mathlib.Nat.{mod-lt, mod-eq_of_lt}
-use native.Mathlib.Omega.{arith}
+use Prim.Native.Nat.{ℕ, ◌%◌, ◌<◌}
+use native.Mathlib.Nat.{mod-eq_of_lt}
 use lib.IntN.{ℤ, pos, neg_ℤ, ◌*ℤ◌}
-use Rattle.ring.specs.Word.{Q, Q_pos, at, neg, eighth}
+use Rattle.ring.specs.Word.{Q, neg, eighth}
 use Rattle.ring.specs.Centre.{centre, word_of}
 use Rattle.params.specs.declared.Params.{Params}
 use Rattle.tlwe.specs.Key.{binary}

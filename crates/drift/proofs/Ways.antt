@@ -1,20 +1,17 @@
 -- One gate of a circuit, by its way: where the operands that it needs carry bits with drifts and all that is brought in is inside, its ciphertext carries the way's meaning
 -- with the way's drift; and always its drift is the short way's. By cases on the way.
 -- Assumes nothing.
-use mathlib.Core.Path.{◌≡◌, refl, sym, ap, ◌∙◌}
+use mathlib.Core.Path.{◌≡◌, refl, ap, ◌∙◌}
 use mathlib.Core.Bool.{Bool, true, false, not, cond}
-use mathlib.Core.List.{List, [], ◌∷◌, ◌++◌, map}
+use mathlib.Core.List.{List, [], ◌∷◌, ◌++◌}
 use Prim.Native.Nat.{ℕ, ◌+◌, ◌%◌, ◌<◌}
-use native.Mathlib.Nat.{mod-lt}
 use native.Mathlib.Omega.{arith}
 use lib.Dec.{lit<}
-use Rattle.ring.specs.Word.{Q, Q_pos, neg, eighth}
+use Rattle.ring.specs.Word.{Q, neg}
 use Rattle.params.specs.declared.Params.{Params}
 use Rattle.params.specs.Ranges.{InRange}
 use Rattle.tlwe.specs.Key.{binary}
 use Rattle.tlwe.specs.Plain.{bit_word}
-use Rattle.tlwe.specs.Linear.{negative}
-use Rattle.tlwe.proofs.Phases.{phase_neg}
 use Rattle.gate_sums.specs.declared.Kind.{Kind}
 use Rattle.gate_sums.specs.declared.Kind.TheVariants.{And, AndNy}
 use Rattle.gate_sums.specs.Kind.{meaning}
@@ -27,9 +24,7 @@ use Rattle.ways.specs.Private.{operands_of, way_meaning}
 use Rattle.ways.proofs.Made.{ran_known, ran_negated, ran_gate, ran_negated_gate, ran_choice}
 use Rattle.drift.specs.PrivateWords.{brought_word, gate_word, mux_word}
 use Rattle.drift.specs.PrivateCircuit.{way_word, way_brought_words, all_words}
-use Rattle.drift.specs.PrivateShort.{side_of, carried_word, short_word}
 use Rattle.drift.proofs.Phases.{both, not_drift, constant_drift}
-use Rattle.drift.proofs.Sides.{gate_side, mux_side}
 use Rattle.drift.proofs.Meaning.{gate_means, mux_means}
 use Rattle.ring.specs.Phase.{phase_of}
 use Rattle.drift_size.specs.Size.{inside_word}

@@ -1,6 +1,6 @@
 -- The worst of what is brought in tells of all: they are inside exactly where the one that is largest in absolute value is. Induction on the list, the worst so far being carried along.
 -- Assumes nothing.
-use mathlib.Core.Path.{◌≡◌, refl, sym, ap, ◌∙◌}
+use mathlib.Core.Path.{◌≡◌, refl, ap, ◌∙◌}
 use mathlib.Core.Logic.{⊎_elim}
 use mathlib.Core.Bool.{Bool, true, false, cond}
 use mathlib.Core.List.{List, [], ◌∷◌}
