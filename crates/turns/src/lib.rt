@@ -1,3 +1,4 @@
+#![tactic(auto)]
 // What the turns of a rotation tell whoever holds the secret key (01, Drift), without rotating: the place that they bring to the front, which is the rounded phase of the
 // ciphertext in steps, and what rounding brings in, which is that less the phase. A gate's drift asks it of its sum.
 ghost use Rattle.std.specs.Prelude.{◌≡◌, ◌*◌, ◌%◌, length};
@@ -17,7 +18,7 @@ use tlwe::Level;
 use utils::Torus;
 
 // What the turns of a rotation by a ciphertext tell: the place, below 2N, that they bring to the front, and what rounding brings in. Both are 0 beside a refusal.
-#[derive(Drop)]
+#[derive(Clone, Copy)]
 pub struct FrontTold {
     pub answer: Answer,
     pub place: u32,

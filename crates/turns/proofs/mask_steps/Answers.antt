@@ -1,0 +1,10 @@
+-- `turns::mask_steps` meets its contract: parameters in range are not refused.
+-- Assumes nothing.
+use mathlib.Core.Path.{ap, ◌∙◌}
+use Rattle.rotation.specs.declared.Rounded.{Rounded}
+use Rattle.rotation.specs.Amount.{mask_amount}
+use Rattle.rotation.proofs.Amounts.{rounded_done}
+use Rattle.turns.proofs.mask_steps.Goals as goal
+
+pub returns : goal.returns
+returns c = ap (λ (x : Rounded). x.amount.0) (c.mask_amount-rounded.ensures ∙ rounded_done c.args.p (mask_amount c.args.p c.args.word) c.requires)
