@@ -1,9 +1,9 @@
 -- What the calls of `encrypted_run` leave: what a drift run is lent is good for an encrypted run too, so each call does its work.
 -- Assumes nothing.
-use mathlib.Core.Path.{◌≡◌, sym, ap, ◌∙◌}
+use mathlib.Core.Path.{◌≡◌, ap, ◌∙◌}
 use mathlib.Core.Bool.{Bool, cond}
 use mathlib.Core.List.{List}
-use Prim.Native.Nat.{ℕ, ◌+◌, ◌<◌}
+use Prim.Native.Nat.{ℕ, ◌<◌}
 use borrow.Author.Tests.{lt-ltb}
 use lib.ListN.{length}
 use Rattle.params.specs.declared.Params.{Params}

@@ -4,7 +4,7 @@ use Rattle.ring.proofs.Outcomes.{Determined, coincide, same_rest, said}
 use Rattle.drift_run.proofs.is_inside as is_inside
 use Rattle.drift_run.specs.contracts.is_inside as is_inside_c
 use Rattle.drift_run.proofs.fresh_drift as fresh_drift_call
-use Rattle.drift_run.specs.contracts.fresh_drift as fresh_drift_call_c
+use Rattle.drift_run.specs.contracts.fresh_drift as fresh_drift_c
 use Rattle.drift_run.proofs.drift_gate as drift_gate
 use Rattle.drift_run.specs.contracts.drift_gate as drift_gate_c
 use Rattle.drift_run.proofs.drift_run as drift_run
@@ -13,7 +13,7 @@ use Rattle.drift_run.specs.contracts.drift_run as drift_run_c
 pub is_inside_determined : Determined is_inside_c.ended is_inside.Reads.Learnt
 is_inside_determined κs a x y v w = said
 
-pub fresh_drift_determined : Determined fresh_drift_call_c.ended fresh_drift_call.Reads.Learnt
+pub fresh_drift_determined : Determined fresh_drift_c.ended fresh_drift_call.Reads.Learnt
 fresh_drift_determined κs a x y v w p q =
     let said = coincide p.0 q.0 in
     let value = coincide p.1 q.1 in

@@ -3,18 +3,17 @@
 -- Assumes nothing.
 use mathlib.Core.Path.{◌≡◌, refl, sym, ap, ap₂, ◌∙◌}
 use mathlib.Core.Bool.{Bool, true, false, cond}
-use mathlib.Core.List.{List, [], ◌∷◌, ◌++◌, append-nil, append_assoc}
-use Prim.Native.Nat.{ℕ, zero, suc, ◌+◌, ◌*◌, ◌-◌, ◌≤◌, ◌<◌}
-use native.Mathlib.Nat.{add-zero, add-suc, le_antisymm}
+use mathlib.Core.List.{List, [], ◌∷◌, ◌++◌, append-nil}
+use Prim.Native.Nat.{ℕ, zero, suc, ◌+◌, ◌≤◌, ◌<◌}
+use native.Mathlib.Nat.{add-zero, le_antisymm}
 use native.Mathlib.Numerals.{add-one}
 use native.Mathlib.Omega.{arith}
 use lib.ListN.{length, take, drop, set, length-append, length-drop, take-append-drop, drop_of_length-le}
 use lib.Seq.{length-take-le, take_at, drop_at, drop-drop, set_split, append_snoc}
-use Rattle.ring.specs.Word.{at}
 use Rattle.ring.specs.Sums.{tab}
 use Rattle.ring.proofs.Tab.{tab_snoc, length-tab}
 use Rattle.params.specs.declared.Params.{Params}
-use Rattle.circuit.specs.Form.{inputs, gates, outputs, wires}
+use Rattle.circuit.specs.Form.{inputs, gates, wires}
 use Rattle.drift.specs.PrivateCircuit.{all_words, gate_brought_words, fresh_words}
 use Rattle.drift.specs.PrivateShort.{short_gate, short_to, short_brought_to}
 use Rattle.drift_run.specs.Private.{put_short}

@@ -20,7 +20,7 @@ use Rattle.params.specs.Sizes.{size}
 use Rattle.params.proofs.Answers.{when_done}
 use Rattle.params.proofs.Ranges.{in_range}
 use Rattle.tlwe.specs.Key.{binary}
-use Rattle.circuit.specs.Form.{inputs, gates, outputs, wires}
+use Rattle.circuit.specs.Form.{inputs, gates, outputs}
 use Rattle.encrypted_run.specs.Run.{ciphers_to, ciphers_of, stepped, wires_before}
 use Rattle.encrypted_run.proofs.Wires.{fits, inputs_fit, held_length, run_none, run_more, run_end}
 use Rattle.drift.specs.Whole.{inside}

@@ -1,16 +1,15 @@
 -- What the code reads of a gate and of the wires lies where it should, and what it is told of a gate is the definition's.
 -- Assumes nothing.
-use mathlib.Core.Path.{◌≡◌, refl, sym, ap, ◌∙◌}
+use mathlib.Core.Path.{◌≡◌, ap, ◌∙◌}
 use mathlib.Core.Logic.{⊎_elim}
 use mathlib.Core.List.{List}
 use Prim.Native.Nat.{ℕ, ◌+◌, ◌*◌, ◌≤◌, ◌<◌}
 use native.Mathlib.Omega.{arith}
-use lib.Dec.{lit<}
 use lib.ListN.{length}
 use Rattle.ring.specs.Word.{at}
 use Rattle.params.specs.declared.Params.{Params}
 use Rattle.kinds.specs.Kinds.{kind_of}
-use Rattle.circuit.specs.Form.{inputs, gates, outputs, wires, kind_at, operand_at, output_at}
+use Rattle.circuit.specs.Form.{inputs, gates, wires, kind_at, operand_at}
 use Rattle.circuit.specs.Valid.{Valid}
 use Rattle.circuit.proofs.Accept.{lt_or_ge}
 use Rattle.ways.specs.declared.Way.{Way}

@@ -1,20 +1,20 @@
 -- What a drift run leaves, worked out the short way in words, is what the definitions in whole numbers give: a pass over finished wires makes the drifts (drift/Passes), and
 -- words suffice (drift/Lists); where all are inside, demand 3 holds (drift/Demand).
 -- Assumes nothing.
-use mathlib.Core.Path.{◌≡◌, refl, sym, ap, ap₂, ◌∙◌, subst}
+use mathlib.Core.Path.{◌≡◌, sym, ap, ap₂, ◌∙◌}
 use mathlib.Core.Logic.{⊎_elim}
 use mathlib.Core.Bool.{Bool, true, false, cond}
-use mathlib.Core.List.{List, [], ◌∷◌, ◌++◌, map}
-use Prim.Native.Nat.{ℕ, zero, suc, ◌+◌, ◌*◌, ◌-◌, ◌≤◌, ◌<◌}
+use mathlib.Core.List.{List, [], ◌∷◌, ◌++◌}
+use Prim.Native.Nat.{ℕ, zero, suc, ◌+◌, ◌*◌, ◌≤◌, ◌<◌}
 use native.Mathlib.Nat.{mul-le-mul_right}
 use native.Mathlib.Omega.{arith}
 use borrow.Author.Tests.{lt-ltb, le-ltb}
 use lib.Dec.{ltb}
-use lib.IntN.{ℤ, pos}
-use lib.ListN.{length, take, drop, length-append, length-drop}
+use lib.IntN.{pos}
+use lib.ListN.{length, take, drop, length-append}
 use lib.Seq.{length-take-le}
 use Rattle.ring.specs.Word.{Q, Q_pos, at}
-use Rattle.ring.specs.Centre.{centre, word_of}
+use Rattle.ring.specs.Centre.{word_of}
 use Rattle.params.specs.declared.Params.{Params}
 use Rattle.params.specs.Ranges.{InRange}
 use Rattle.tlwe.specs.Key.{binary}
@@ -26,14 +26,14 @@ use Rattle.ways.specs.Ciphers.{cipher_at}
 use Rattle.encrypted_run.specs.Run.{gate_cipher, ciphers_of, output_ciphers, stepped, wires_before}
 use Rattle.ways.proofs.Ciphers.{wire_within, cipher_front, cipher_next}
 use Rattle.encrypted_run.proofs.Wires.{gate_length}
-use Rattle.drift.specs.Circuit.{gate_drift_on, gate_brought_on, drifts_of, all_of, worst_from, all_inside}
-use Rattle.drift.specs.PrivateCircuit.{all_words, worst_words, output_words, gate_word_on, gate_brought_words}
+use Rattle.drift.specs.Circuit.{gate_drift_on, drifts_of, all_of, worst_from, all_inside}
+use Rattle.drift.specs.PrivateCircuit.{all_words, worst_words, output_words, gate_brought_words}
 use Rattle.drift.specs.PrivateShort.{short_gate}
 use Rattle.drift.proofs.Passes.{short_gate_lem, short_brought, short_run, short_rotations}
 use Rattle.drift.proofs.Lists.{all_reckoned, worst_reckoned, gate_reckoned, gate_brought_reckoned, drifts_words, inside_reckoned}
 use Rattle.drift.proofs.Demand.{demand_three}
 use Rattle.drift_run.specs.declared.by_way.Drifted.{Drifted}
-use Rattle.drift_run.specs.Run.{words_of, signed_of, Decrypts, drifts_before, gate_brought, drift_stepped}
+use Rattle.drift_run.specs.Run.{words_of, signed_of, Decrypts, gate_brought, drift_stepped}
 use Rattle.drift_run.specs.Private.{drifted, short_drifts, short_inside, put_short, told_short}
 use Rattle.ring.specs.Phase.{phase_of}
 

@@ -2,13 +2,10 @@
 -- Assumes nothing.
 use mathlib.Core.Path.{◌≡◌, refl, ap, ap₂, ◌∙◌}
 use mathlib.Core.Bool.{Bool, true, false, cond}
-use mathlib.Core.List.{List, [], ◌∷◌}
+use mathlib.Core.List.{[], ◌∷◌}
 use Prim.Native.Nat.{ℕ, ◌+◌, ◌%◌}
 use native.Mathlib.Nat.{mod-add-mod}
-use lib.Dec.{ltb}
-use lib.IntN.{nat_abs}
-use Rattle.ring.specs.Word.{Q, neg, eighth}
-use Rattle.ring.specs.Centre.{centre}
+use Rattle.ring.specs.Word.{Q, neg}
 use Rattle.ring.proofs.Words.{neg-mod}
 use Rattle.drift.specs.PrivateCircuit.{all_words, worst_words}
 use Rattle.drift_run.specs.declared.by_way.Drifted.{Drifted}

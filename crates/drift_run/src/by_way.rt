@@ -17,7 +17,7 @@ use params::Params;
 use ways::Way;
 
 // A gate's drift; whether all that is brought into its rotations is inside; and which of that is largest in absolute value.
-#[derive(Drop)]
+#[derive(Clone, Copy)]
 pub(crate) struct Drifted {
     pub drift: u32,
     pub inside: bool,

@@ -1,3 +1,4 @@
+#![tactic(auto)]
 // The drift run (01, Drift): an encrypted run whose secret keys and plain bits are lent too, so that each wire's drift is told and whether all that demand 3 names
 // are inside. It stands above `encrypted_run`, and goes the short way to a drift (`drift`, specs/PrivateShort.antt): one phase a wire.
 ghost use Rattle.std.specs.Prelude.{◌≡◌, true, ℕ, ◌<◌, length};
@@ -20,14 +21,14 @@ mod gates_of;
 mod rotations;
 
 // What a drift run tells: whether all that demand 3 names are inside, false beside a refusal.
-#[derive(Drop)]
+#[derive(Clone, Copy)]
 pub struct RunTold {
     pub answer: Answer,
     pub inside: bool,
 }
 
 // What one gate of it tells: whether all that is brought into its rotations is inside, false beside a refusal, and which of it is largest in absolute value.
-#[derive(Drop)]
+#[derive(Clone, Copy)]
 pub struct GateTold {
     pub answer: Answer,
     pub inside: bool,
@@ -35,7 +36,7 @@ pub struct GateTold {
 }
 
 // A fresh drift, 0 beside a refusal.
-#[derive(Drop)]
+#[derive(Clone, Copy)]
 pub struct FreshTold {
     pub answer: Answer,
     pub drift: Torus,

@@ -14,7 +14,7 @@ use tlwe::Level;
 use turns::FrontTold;
 
 // The side of a rotation, and the drift brought into it.
-#[derive(Drop)]
+#[derive(Clone, Copy)]
 pub(crate) struct Turned {
     pub side: bool,
     pub brought: u32,

@@ -8,19 +8,14 @@ use Rattle.refusals.proofs.Table.{chain_first}
 use Rattle.encrypted_run.specs.declared.Lengths.{Lengths}
 use Rattle.encrypted_run.specs.Refusals.{around, lengths_of}
 use Rattle.drift_run.specs.Refusals.{drift_wires_number, drift_gate_answer}
-use Rattle.drift_run.proofs.answers.gate_answer.Statement.{statement}
-use Rattle.drift_run.proofs.answers.gate_answer.Tie as tie
+use Rattle.drift_run.proofs.answers.gate_answer.Goals as goal
 
-returns : tie.Need-returns
+pub returns : goal.returns
 unfolding drift_gate_answer drift_wires_number lengths_of
 returns c =
-    let a = c.before.before.before.before.before.before.before.before.args in
-    let t = c.before.before.before.before.lengths-of in
+    let a = c.args in
+    let t = c.lengths_of-t in
     c.around.ensures
-    ∙ ap₂ (λ (x y : ℕ). around x a.bytes.now y) c.before.secrets-number.ensures
-    (rw (c.before.before.is2.ensures, c.before.before.before.is.ensures) (chain_first (is a.lw t.result.held 2 ∷ is a.ld t.result.wires 2 ∷ []) refl)
+    ∙ ap₂ (λ (x y : ℕ). around x a.bytes.now y) c.secrets_number.ensures
+    (rw (c.is-last-2.ensures, c.is-last.ensures) (chain_first (is a.lw t.result.held 2 ∷ is a.ld t.result.wires 2 ∷ []) refl)
     ∙ ap (λ (l : Lengths). first_of (is a.lw l.held 2 ∷ is a.ld l.wires 2 ∷ [])) t.ensures)
-
-pub gate_answer_spec : {M : Type 1} → statement M
-gate_answer_spec = tie.close
-    (tie.spec (λ c κs. tt) (λ c κs. tt) (λ c κs. tt) (λ c κs. tt) (λ c κs. tt) returns)

@@ -1,0 +1,13 @@
+use mathlib.Core.Path.{◌≡◌}
+use Prim.Native.Nat.{◌-◌, ◌≤◌}
+use Rattle.ring.specs.Word.{at}
+use Rattle.ring.specs.Sums.{tab}
+use Rattle.circuit.specs.Form.{outputs, output_at}
+use Rattle.drift.specs.PrivateCircuit.{all_words}
+use Rattle.drift_run.proofs.gates_of.outputs_inside.Given as goal
+
+abbrev pub invariant-loop-o : goal.invariant-loop-o
+invariant-loop-o l = (l.n ≡ outputs l.bytes) × (l.o ≤ outputs l.bytes) × (l.inside ≡ all_words (tab l.o (λ k. at l.drifts (output_at l.bytes k))))
+
+abbrev pub decreases-loop-o : goal.decreases-loop-o
+decreases-loop-o l = outputs l.bytes - l.o
