@@ -1,13 +1,12 @@
 -- What the callees leave and tell where this crate calls them: each is lent what it asks for, so none is refused.
 -- Assumes nothing.
-use mathlib.Core.Path.{◌≡◌, sym, ap, ap₂, ◌∙◌}
+use mathlib.Core.Path.{◌≡◌, ap, ◌∙◌}
 use mathlib.Core.List.{List}
-use Prim.Native.Nat.{ℕ, ◌+◌}
+use Prim.Native.Nat.{ℕ}
 use lib.ListN.{length}
 use Rattle.params.specs.declared.Params.{Params}
 use Rattle.params.specs.Sizes.{size}
 use Rattle.params.proofs.Answers.{when_done}
-use Rattle.refusals.proofs.Table.{done}
 use Rattle.tlwe.specs.declared.Level.TheVariants.{Zero}
 use Rattle.tlwe.specs.Key.{keyed_number}
 use Rattle.tlwe.proofs.Refusals.{keyed_done}

@@ -2,9 +2,9 @@
 -- Assumes nothing.
 use Rattle.ring.proofs.Outcomes.{Determined, coincide, same_rest}
 use Rattle.table_drift.proofs.lookup_drift as lookup_drift_call
-use Rattle.table_drift.specs.contracts.lookup_drift as lookup_drift_call_c
+use Rattle.table_drift.specs.contracts.lookup_drift as lookup_drift_c
 
-pub lookup_drift_determined : Determined lookup_drift_call_c.ended lookup_drift_call.Reads.Learnt
+pub lookup_drift_determined : Determined lookup_drift_c.ended lookup_drift_call.Reads.Learnt
 lookup_drift_determined κs a x y v w p q =
     let said = coincide p.0 q.0 in
     let told = coincide p.1.0 q.1.0 in

@@ -2,19 +2,19 @@
 -- The gates' law of a rotation's front (drift/Sides.rotated-front, with drift/Round.near for the place) and the table's (tables/Entries.front-entry), one after the other. From there: the result
 -- decrypts to the message, or the bit, that its word is, while its own drift is inside; and its drift as that message is the lookup's, so that the next lookup can go on from it (`chained`).
 -- Assumes nothing.
-use mathlib.Core.Path.{◌≡◌, refl, sym, ap, ap₂, ◌∙◌}
+use mathlib.Core.Path.{◌≡◌, refl, sym, ap, ◌∙◌}
 use mathlib.Core.Bool.{Bool, true, cond}
 use mathlib.Core.List.{List}
 use Prim.Native.Nat.{ℕ, ◌+◌, ◌-◌, ◌*◌, ◌/◌, ◌%◌, ◌^◌, ◌≤◌, ◌<◌}
-use native.Mathlib.Nat.{mod-lt, mod-eq_of_lt, mod-add-mod, add-mod-mod}
+use native.Mathlib.Nat.{mod-lt, mod-add-mod}
 use native.Mathlib.Decide.{ℕ_discrete}
 use native.Mathlib.Omega.{arith}
 use borrow.Author.Tests.{ltb-true}
 use lib.Dec.{ltb, ltb→lt, nltb→le}
-use lib.IntN.{ℤ, pos, nat_abs, ◌+ℤ◌}
-use Rattle.ring.specs.Word.{Q, Q_pos, at, neg, eighth}
+use lib.IntN.{ℤ, nat_abs}
+use Rattle.ring.specs.Word.{Q, Q_pos, at, neg}
 use Rattle.ring.specs.Centre.{H, centre, word_of}
-use Rattle.ring.specs.Turn.{source, negating}
+use Rattle.ring.specs.Turn.{negating}
 use Rattle.ring.specs.Phase.{phase_of}
 use Rattle.ring.specs.Pair.{Pair}
 use Rattle.ring.proofs.Tab.{at-tab}
@@ -31,8 +31,7 @@ use Rattle.rotation.specs.Amount.{step}
 use Rattle.blind_rotation.specs.Drift.{turn_to}
 use Rattle.tables.specs.Table.{is_table, table_word, table_pair, looked_up}
 use Rattle.tables.proofs.Entries.{table_modulus, table_halves, front_entry, front_entry_lem}
-use Rattle.drift.specs.Polynomials.{centred, whole_phase}
-use Rattle.drift.specs.Whole.{fresh_drift, rounding_drift, rotated_drift}
+use Rattle.drift.specs.Whole.{fresh_drift, rotated_drift}
 use Rattle.drift.specs.PrivateWords.{rounding_word, rotated_word, fresh_word}
 use Rattle.drift.specs.PrivateShort.{place_of, front_word}
 use Rattle.drift.proofs.Phases.{together}

@@ -3,7 +3,7 @@
 use mathlib.Core.Path.{◌≡◌, refl, sym, ap, ap₂, subst, ◌∙◌}
 use mathlib.Core.Bool.{Bool, true, false, cond}
 use mathlib.Core.List.{List, [], ◌∷◌}
-use Prim.Native.Nat.{ℕ, suc, ◌+◌, ◌*◌, ◌/◌, ◌^◌, ◌%◌, ◌<◌, ◌≤◌}
+use Prim.Native.Nat.{ℕ, ◌+◌, ◌*◌, ◌/◌, ◌^◌, ◌%◌, ◌<◌, ◌≤◌}
 use native.Mathlib.Omega.{arith}
 use borrow.Author.Tests.{ltb-true, lt-ltb}
 use lib.IntN.{ℤ, nat_abs}
@@ -18,7 +18,7 @@ use Rattle.tlwe.specs.Key.{binary}
 use Rattle.tlwe.specs.Plain.{modulus_number, message_word}
 use Rattle.tables.specs.Table.{is_table, table_pair, looked_up}
 use Rattle.drift.specs.PrivateWords.{rounding_word}
-use Rattle.drift.specs.PrivateShort.{place_of, front_word}
+use Rattle.drift.specs.PrivateShort.{place_of}
 use Rattle.table_drift.specs.Lookup.{message_brought, lookup_drift, inside_margin, both_inside, Carries}
 use Rattle.table_drift.specs.Private.{front_at, brought_short, lookup_short, within_word, both_within}
 use Rattle.drift.proofs.Phases.{both}

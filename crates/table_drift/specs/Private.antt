@@ -1,5 +1,5 @@
 -- What the routines inside this crate promise each other, in words; a reader of the public contract can leave it.
-use Rattle.std.specs.Prelude.{Bool, true, false, cond, ◌≡◌, List, ℕ, ◌+◌, ◌-◌, ◌*◌, ◌/◌, ◌%◌, ltb, length}
+use Rattle.std.specs.Prelude.{Bool, true, false, cond, ◌≡◌, List, ℕ, ◌+◌, ◌-◌, ◌%◌, ltb, length}
 use Rattle.ring.specs.Word.{Q, at, neg}
 use Rattle.ring.specs.Pair.{Pair}
 use Rattle.ring.specs.Phase.{phase_of}

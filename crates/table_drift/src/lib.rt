@@ -1,3 +1,4 @@
+#![tactic(auto)]
 // A lookup with its drifts (02, 2026-07; 01, Drift), for whoever holds both secret keys: what is brought into its rotation, the result's drift, and whether both are inside. It goes the short way to a
 // drift, as a drift run does: the result's phase less what the turns brought to the front.
 ghost use Rattle.std.specs.Prelude.{true, ◌≡◌, length, ◌+◌, ◌%◌};
@@ -12,7 +13,7 @@ use params::{Answer, Params};
 mod drifts;
 
 // What a lookup with its drifts tells: whether both are inside, false beside a refusal.
-#[derive(Drop)]
+#[derive(Clone, Copy)]
 pub struct LookupTold {
     pub answer: Answer,
     pub inside: bool,
