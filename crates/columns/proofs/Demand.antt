@@ -18,7 +18,7 @@ use Rattle.tlwe.specs.Decrypt.{bit_of}
 use Rattle.kinds.specs.Kinds.{kind_of}
 use Rattle.ways.specs.Ways.{way_of, ran}
 use Rattle.ways.specs.Ciphers.{cipher_at}
-use Rattle.ways.specs.Private.{operands_of, way_meaning}
+use Rattle.ways.specs.Private.{way_meaning}
 use Rattle.ways.proofs.Meanings.{ways_mean}
 use Rattle.drift.specs.Whole.{inside, fresh_drift}
 use Rattle.drift.specs.Circuit.{way_drift, way_brought, all_of}

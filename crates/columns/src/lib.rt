@@ -1,3 +1,4 @@
+#![tactic(auto)]
 // A column of gates in one call (02, 2026-01; src/gates.rs, `batch_nand_with_railgun` and its siblings, without threads): one kind, as a circuit numbers it, on
 // pair after pair. It stands above `ways`, whose table says what each kind runs, so that a column and a circuit cannot disagree.
 ghost use Rattle.std.specs.Prelude.{◌≡◌, ◌+◌, ◌*◌, ◌<◌, eqb, length};
