@@ -1,3 +1,4 @@
+#![tactic(auto)]
 // The library as C sees it (include/egl.h): numbers as themselves, a slice as a pointer and a length, the answer as one u64. Every function here is
 // thin: its contract is that of the routine it calls.
 pub mod bristol_c;

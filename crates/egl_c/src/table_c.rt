@@ -28,8 +28,8 @@ pub extern "C" fn egl_table_testvec(
     b: &mut [u32],
 ) -> u64
     ensures said { result ≡ packed (answer (table_number (numbers n nbit bgbit l basebit t) modulus (length table.now) (length a.old) (length b.old))) }
-    ensures first { a.exit.now ≡ (table_out (numbers n nbit bgbit l basebit t) modulus table.now (record { a = a.entry.now; b = b.old })).a }
-    ensures second { b.new ≡ (table_out (numbers n nbit bgbit l basebit t) modulus table.now (record { a = a.entry.now; b = b.old })).b }
+    ensures first { a.new ≡ (table_out (numbers n nbit bgbit l basebit t) modulus table.now (record { a = a.old; b = b.old })).a }
+    ensures second { b.new ≡ (table_out (numbers n nbit bgbit l basebit t) modulus table.now (record { a = a.old; b = b.old })).b }
 {
     pack(tables::table_testvec(numbers(n, nbit, bgbit, l, basebit, t), modulus, table, a, b))
 }
@@ -51,8 +51,8 @@ pub extern "C" fn egl_trgsw_blind_rotate_with_testvec(
     b: &mut [u32],
 ) -> u64
     ensures said { result ≡ packed (answer (vector_number (numbers n nbit bgbit l basebit t) (length src.now) (length va.now) (length vb.now) (length key.now) (length a.old) (length b.old))) }
-    ensures first { a.exit.now ≡ (vector_out (numbers n nbit bgbit l basebit t) src.now (record { a = va.now; b = vb.now }) key.now (record { a = a.entry.now; b = b.old })).a }
-    ensures second { b.new ≡ (vector_out (numbers n nbit bgbit l basebit t) src.now (record { a = va.now; b = vb.now }) key.now (record { a = a.entry.now; b = b.old })).b }
+    ensures first { a.new ≡ (vector_out (numbers n nbit bgbit l basebit t) src.now (record { a = va.now; b = vb.now }) key.now (record { a = a.old; b = b.old })).a }
+    ensures second { b.new ≡ (vector_out (numbers n nbit bgbit l basebit t) src.now (record { a = va.now; b = vb.now }) key.now (record { a = a.old; b = b.old })).b }
 {
     pack(blind_rotation::vector::blind_rotate_with_testvec(
         numbers(n, nbit, bgbit, l, basebit, t),

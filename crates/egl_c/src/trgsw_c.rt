@@ -52,8 +52,8 @@ pub extern "C" fn egl_trgsw_external_product(
     outb: &mut [u32],
 ) -> u64
     ensures said { result ≡ packed (answer (external_number (numbers n nbit bgbit l basebit t) (length rows.now) (length a.now) (length b.now) (length outa.old) (length outb.old))) }
-    ensures first { outa.new ≡ (external_out (numbers n nbit bgbit l basebit t) rows.now (record { a = a.entry.now; b = b.now }) (record { a = outa.old; b = outb.old })).a }
-    ensures second { outb.new ≡ (external_out (numbers n nbit bgbit l basebit t) rows.now (record { a = a.entry.now; b = b.now }) (record { a = outa.old; b = outb.old })).b }
+    ensures first { outa.new ≡ (external_out (numbers n nbit bgbit l basebit t) rows.now (record { a = a.now; b = b.now }) (record { a = outa.old; b = outb.old })).a }
+    ensures second { outb.new ≡ (external_out (numbers n nbit bgbit l basebit t) rows.now (record { a = a.now; b = b.now }) (record { a = outa.old; b = outb.old })).b }
 {
     pack(trgsw::external_product(
         numbers(n, nbit, bgbit, l, basebit, t),
@@ -171,8 +171,8 @@ pub extern "C" fn egl_trgsw_blind_rotate_step(
     b: &mut [u32],
 ) -> u64
     ensures said { result ≡ packed (answer (step_number (numbers n nbit bgbit l basebit t) (length key.now) i (length a.old) (length b.old))) }
-    ensures first { a.exit.now ≡ (step_out (numbers n nbit bgbit l basebit t) key.now i mask (record { a = a.entry.now; b = b.old })).a }
-    ensures second { b.new ≡ (step_out (numbers n nbit bgbit l basebit t) key.now i mask (record { a = a.entry.now; b = b.old })).b }
+    ensures first { a.new ≡ (step_out (numbers n nbit bgbit l basebit t) key.now i mask (record { a = a.old; b = b.old })).a }
+    ensures second { b.new ≡ (step_out (numbers n nbit bgbit l basebit t) key.now i mask (record { a = a.old; b = b.old })).b }
 {
     pack(blind_rotation::blind_rotate_step(
         numbers(n, nbit, bgbit, l, basebit, t),
@@ -199,8 +199,8 @@ pub extern "C" fn egl_trgsw_blind_rotate(
     b: &mut [u32],
 ) -> u64
     ensures said { result ≡ packed (answer (blind_number (numbers n nbit bgbit l basebit t) (length src.now) (length key.now) (length a.old) (length b.old))) }
-    ensures first { a.exit.now ≡ (blind_out (numbers n nbit bgbit l basebit t) src.now key.now (record { a = a.entry.now; b = b.old })).a }
-    ensures second { b.new ≡ (blind_out (numbers n nbit bgbit l basebit t) src.now key.now (record { a = a.entry.now; b = b.old })).b }
+    ensures first { a.new ≡ (blind_out (numbers n nbit bgbit l basebit t) src.now key.now (record { a = a.old; b = b.old })).a }
+    ensures second { b.new ≡ (blind_out (numbers n nbit bgbit l basebit t) src.now key.now (record { a = a.old; b = b.old })).b }
 {
     pack(blind_rotation::blind_rotate(numbers(n, nbit, bgbit, l, basebit, t), src, key, a, b))
 }
