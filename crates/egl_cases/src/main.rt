@@ -1,16 +1,19 @@
 // The texts of many circuits, good and bad, one after the other: circuits made by a rule, 01's example and the largest among them, with a byte
 // changed or the length cut, and circuits of muxes alone. The expected output is made by the harness, which reads and evaluates circuits by document 01 alone, has the
 // same rule, and counts the work by running (oracle/program).
+#![tactic(auto)]
+
 ghost use Rattle.std.specs.Prelude.{◌≤◌, ◌<◌};
 
-use libc::STDOUT_FILENO;
+use std::io;
+use std::io::Write;
 
 // Writes the text of a circuit's bytes.
-fn show(bytes: &[u8]) {
+fn show(output: &mut impl Write, bytes: &[u8]) -> io::Result<()> {
     let mut text = [0u8; 1280];
     let told = report::describe(bytes, &mut text);
     let n = told.length;
-    io::write_all(STDOUT_FILENO, &text[..n]);
+    output.write_all(&text[..n])
 }
 
 // A byte at a place, where there is one.
@@ -114,6 +117,7 @@ fn put_outputs(out: &mut [u8], wires: usize, gates: usize, outputs: usize)
 
 // The circuit of these counts, its gates of one kind or of all, with the byte at a place changed, and of it so many bytes.
 fn case_of(
+    output: &mut impl Write,
     only: u8,
     inputs: usize,
     gates: usize,
@@ -121,7 +125,7 @@ fn case_of(
     place: usize,
     value: u8,
     count: usize,
-)
+) -> io::Result<()>
     requires { (inputs ≤ 300) × (gates ≤ 1100) × (outputs ≤ 100) × (count ≤ 9000) }
 {
     let mut bytes = [0u8; 9000];
@@ -129,112 +133,121 @@ fn case_of(
     put_gates(&mut bytes, only, inputs, gates);
     put_outputs(&mut bytes, inputs + gates, gates, outputs);
     put(&mut bytes, place, value);
-    show(&bytes[..count]);
+    show(output, &bytes[..count])
 }
 
 // The same with all kinds in turn.
-fn case(inputs: usize, gates: usize, outputs: usize, place: usize, value: u8, count: usize)
+fn case(
+    output: &mut impl Write,
+    inputs: usize,
+    gates: usize,
+    outputs: usize,
+    place: usize,
+    value: u8,
+    count: usize,
+) -> io::Result<()>
     requires { (inputs ≤ 300) × (gates ≤ 1100) × (outputs ≤ 100) × (count ≤ 9000) }
 {
-    case_of(14, inputs, gates, outputs, place, value, count);
+    case_of(output, 14, inputs, gates, outputs, place, value, count)
 }
 
 // 01's example, which the rule gives for these counts, with a byte changed.
-fn example(place: usize, value: u8) {
-    case(2, 1, 1, place, value, 21);
+fn example(output: &mut impl Write, place: usize, value: u8) -> io::Result<()> {
+    case(output, 2, 1, 1, place, value, 21)
 }
 
 // Lengths: nothing, too short for a head, and each side of the right one.
-fn lengths() {
-    case(2, 1, 1, 9999, 0, 0);
-    case(2, 1, 1, 9999, 0, 10);
-    case(2, 1, 1, 9999, 0, 11);
-    case(2, 1, 1, 9999, 0, 20);
-    case(2, 1, 1, 9999, 0, 21);
-    case(2, 1, 1, 9999, 0, 22);
+fn lengths(output: &mut impl Write) -> io::Result<()> {
+    case(output, 2, 1, 1, 9999, 0, 0)?;
+    case(output, 2, 1, 1, 9999, 0, 10)?;
+    case(output, 2, 1, 1, 9999, 0, 11)?;
+    case(output, 2, 1, 1, 9999, 0, 20)?;
+    case(output, 2, 1, 1, 9999, 0, 21)?;
+    case(output, 2, 1, 1, 9999, 0, 22)
 }
 
 // The mark and the version.
-fn marks() {
-    example(0, 70);
-    example(1, 0);
-    example(2, 77);
-    example(3, 2);
-    example(3, 0);
-    example(4, 1);
+fn marks(output: &mut impl Write) -> io::Result<()> {
+    example(output, 0, 70)?;
+    example(output, 1, 0)?;
+    example(output, 2, 77)?;
+    example(output, 3, 2)?;
+    example(output, 3, 0)?;
+    example(output, 4, 1)
 }
 
 // The counts, each side of their ends.
-fn counts() {
-    case(256, 0, 1, 9999, 0, 13);
-    case(257, 0, 1, 9999, 0, 13);
-    case(1, 1024, 1, 9999, 0, 8205);
-    case(1, 1025, 1, 9999, 0, 8213);
-    case(1, 0, 0, 9999, 0, 11);
-    case(1, 0, 64, 9999, 0, 139);
-    case(1, 0, 65, 9999, 0, 141);
+fn counts(output: &mut impl Write) -> io::Result<()> {
+    case(output, 256, 0, 1, 9999, 0, 13)?;
+    case(output, 257, 0, 1, 9999, 0, 13)?;
+    case(output, 1, 1024, 1, 9999, 0, 8205)?;
+    case(output, 1, 1025, 1, 9999, 0, 8213)?;
+    case(output, 1, 0, 0, 9999, 0, 11)?;
+    case(output, 1, 0, 64, 9999, 0, 139)?;
+    case(output, 1, 0, 65, 9999, 0, 141)
 }
 
 // A gate's fields.
-fn fields() {
-    example(11, 14);
-    example(12, 1);
-    example(13, 2);
-    example(14, 1);
-    example(15, 2);
-    example(17, 1);
-    example(18, 1);
+fn fields(output: &mut impl Write) -> io::Result<()> {
+    example(output, 11, 14)?;
+    example(output, 12, 1)?;
+    example(output, 13, 2)?;
+    example(output, 14, 1)?;
+    example(output, 15, 2)?;
+    example(output, 17, 1)?;
+    example(output, 18, 1)
 }
 
 // The kinds, the operands of a nand being there.
-fn kinds() {
-    example(11, 0);
-    example(11, 2);
-    example(11, 3);
-    example(11, 4);
-    example(11, 6);
-    example(11, 7);
-    example(11, 8);
+fn kinds(output: &mut impl Write) -> io::Result<()> {
+    example(output, 11, 0)?;
+    example(output, 11, 2)?;
+    example(output, 11, 3)?;
+    example(output, 11, 4)?;
+    example(output, 11, 6)?;
+    example(output, 11, 7)?;
+    example(output, 11, 8)
 }
 
 // The other kinds, and the output.
-fn more_kinds() {
-    example(11, 9);
-    example(11, 10);
-    example(11, 11);
-    example(11, 12);
-    example(11, 13);
-    example(19, 3);
-    example(20, 1);
+fn more_kinds(output: &mut impl Write) -> io::Result<()> {
+    example(output, 11, 9)?;
+    example(output, 11, 10)?;
+    example(output, 11, 11)?;
+    example(output, 11, 12)?;
+    example(output, 11, 13)?;
+    example(output, 19, 3)?;
+    example(output, 20, 1)
 }
 
 // Tables: no wire at all, no inputs, one, four and five inputs, every kind, many outputs, the largest circuit and a byte more.
-fn tables() {
-    case(0, 0, 1, 9999, 0, 13);
-    case(0, 5, 2, 9999, 0, 55);
-    case(1, 0, 1, 9999, 0, 13);
-    case(3, 30, 9, 9999, 0, 269);
-    case(4, 40, 64, 9999, 0, 459);
-    case(5, 7, 3, 9999, 0, 73);
-    case(256, 1024, 64, 9999, 0, 8331);
-    case(256, 1024, 64, 9999, 0, 8332);
+fn tables(output: &mut impl Write) -> io::Result<()> {
+    case(output, 0, 0, 1, 9999, 0, 13)?;
+    case(output, 0, 5, 2, 9999, 0, 55)?;
+    case(output, 1, 0, 1, 9999, 0, 13)?;
+    case(output, 3, 30, 9, 9999, 0, 269)?;
+    case(output, 4, 40, 64, 9999, 0, 459)?;
+    case(output, 5, 7, 3, 9999, 0, 73)?;
+    case(output, 256, 1024, 64, 9999, 0, 8331)?;
+    case(output, 256, 1024, 64, 9999, 0, 8332)
 }
 
 // Muxes alone: one, behind a constant, a few, and as many as there can be, whose work is the most that a circuit has.
-fn muxes() {
-    case_of(13, 3, 1, 1, 9999, 0, 21);
-    case_of(13, 0, 3, 1, 9999, 0, 37);
-    case_of(13, 4, 6, 2, 9999, 0, 63);
-    case_of(13, 256, 1024, 64, 9999, 0, 8331);
+fn muxes(output: &mut impl Write) -> io::Result<()> {
+    case_of(output, 13, 3, 1, 1, 9999, 0, 21)?;
+    case_of(output, 13, 0, 3, 1, 9999, 0, 37)?;
+    case_of(output, 13, 4, 6, 2, 9999, 0, 63)?;
+    case_of(output, 13, 256, 1024, 64, 9999, 0, 8331)
 }
 
-fn main() {
-    lengths();
-    marks();
-    counts();
-    fields();
-    kinds();
-    more_kinds();
-    tables();
-    muxes();
+fn main(rt: HostRuntime) -> io::Result<()> {
+    let output = &mut rt.stdout();
+    lengths(output)?;
+    marks(output)?;
+    counts(output)?;
+    fields(output)?;
+    kinds(output)?;
+    more_kinds(output)?;
+    tables(output)?;
+    muxes(output)
 }

@@ -1,6 +1,7 @@
 // Cases of the group rotation, made by oracle/replay.py from the list that the oracle samples.
 use super::show;
 use params::Params;
+use std::io;
 
 fn set_0() -> Params {
     Params {
@@ -13,29 +14,29 @@ fn set_0() -> Params {
     }
 }
 
-fn trgsw_poly_mul_with_x_k() {
+fn trgsw_poly_mul_with_x_k(rt: &impl Print) -> io::Result<()> {
     let a: [u32; 2] = [0x62cc6e15, 0x0];
     let mut out: [u32; 2] = [0xa20a722d, 0x93b987cd];
     let r = rotation::poly_mul_with_x_k(set_0(), &a, utils::Amount(0x4), &mut out);
-    show::words(b"trgsw_poly_mul_with_x_k", r, &out);
+    show::words(rt, "trgsw_poly_mul_with_x_k", r, &out)
 }
 
-fn trgsw_mask_amount() {
+fn trgsw_mask_amount(rt: &impl Print) -> io::Result<()> {
     let r = rotation::mask_amount(set_0(), utils::Torus(0xa327c956));
     let answer = r.answer;
     let amount = r.amount;
-    show::word(b"trgsw_mask_amount", answer, amount.0);
+    show::word(rt, "trgsw_mask_amount", answer, amount.0)
 }
 
-fn trgsw_body_amount() {
+fn trgsw_body_amount(rt: &impl Print) -> io::Result<()> {
     let r = rotation::body_amount(set_0(), utils::Torus(0xdfffffff));
     let answer = r.answer;
     let amount = r.amount;
-    show::word(b"trgsw_body_amount", answer, amount.0);
+    show::word(rt, "trgsw_body_amount", answer, amount.0)
 }
 
-pub fn run() {
-    trgsw_poly_mul_with_x_k();
-    trgsw_mask_amount();
-    trgsw_body_amount();
+pub fn run(rt: &impl Print) -> io::Result<()> {
+    trgsw_poly_mul_with_x_k(rt)?;
+    trgsw_mask_amount(rt)?;
+    trgsw_body_amount(rt)
 }

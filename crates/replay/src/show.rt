@@ -1,109 +1,106 @@
 // What a case prints: a line with the routine, the refusal's number, and the words of each slice that it was lent to write, or the value beside the answer.
 use params::{Answer, Params};
+use std::io;
 
 // The routine, the number and the words of one slice.
-pub fn words(name: &[u8], r: Answer, s: &[u32]) {
-    answer(name, r);
-    all_words(s);
-    end();
+pub fn words(rt: &impl Print, name: &str, r: Answer, s: &[u32]) -> io::Result<()> {
+    answer(rt, name, r)?;
+    all_words(rt, s)?;
+    end(rt)
 }
 
 // The same of two slices.
-pub fn pair(name: &[u8], r: Answer, a: &[u32], b: &[u32]) {
-    answer(name, r);
-    all_words(a);
-    all_words(b);
-    end();
+pub fn pair(rt: &impl Print, name: &str, r: Answer, a: &[u32], b: &[u32]) -> io::Result<()> {
+    answer(rt, name, r)?;
+    all_words(rt, a)?;
+    all_words(rt, b)?;
+    end(rt)
 }
 
 // The same of a slice of bytes.
-pub fn bytes(name: &[u8], r: Answer, s: &[u8]) {
-    answer(name, r);
-    all_bytes(s);
-    end();
+pub fn bytes(rt: &impl Print, name: &str, r: Answer, s: &[u8]) -> io::Result<()> {
+    answer(rt, name, r)?;
+    all_bytes(rt, s)?;
+    end(rt)
 }
 
 // The routine, the number and a word.
-pub fn word(name: &[u8], r: Answer, x: u32) {
-    wide(name, r, x as u64);
+pub fn word(rt: &impl Print, name: &str, r: Answer, x: u32) -> io::Result<()> {
+    wide(rt, name, r, u64::from(x))
 }
 
 // The same of a bit.
-pub fn bit(name: &[u8], r: Answer, b: bool) {
-    wide(name, r, b as u64);
+pub fn bit(rt: &impl Print, name: &str, r: Answer, b: bool) -> io::Result<()> {
+    wide(rt, name, r, u64::from(b))
 }
 
 // The same of the low half of a number of 64 bits.
-pub fn wide(name: &[u8], r: Answer, x: u64) {
-    answer(name, r);
-    bar();
-    hex(x % 0x1_0000_0000);
-    end();
+pub fn wide(rt: &impl Print, name: &str, r: Answer, x: u64) -> io::Result<()> {
+    answer(rt, name, r)?;
+    bar(rt)?;
+    hex(rt, x % 0x1_0000_0000)?;
+    end(rt)
 }
 
 // The routine and the words of a part of a slice.
-pub fn row(name: &[u8], s: &[u32]) {
-    let _n = io::write_all(1, name);
-    all_words(s);
-    end();
+pub fn row(rt: &impl Print, name: &str, s: &[u32]) -> io::Result<()> {
+    print!(rt; "{name}")?;
+    all_words(rt, s)?;
+    end(rt)
 }
 
 // A name and the six numbers of a parameter set.
-pub fn set(name: &[u8], p: Params) {
-    let six = [p.n, p.nbit, p.bgbit, p.l, p.basebit, p.t];
-    row(name, &six);
+pub fn set(rt: &impl Print, name: &str, p: Params) -> io::Result<()> {
+    row(rt, name, &[p.n, p.nbit, p.bgbit, p.l, p.basebit, p.t])
 }
 
 // The routine and the number.
-fn answer(name: &[u8], r: Answer) {
-    let _n = io::write_all(1, name);
-    hex(r.number as u64);
+fn answer(rt: &impl Print, name: &str, r: Answer) -> io::Result<()> {
+    print!(rt; "{name}")?;
+    hex(rt, u64::from(r.number))
 }
 
 // What stands before each slice.
-fn bar() {
-    let _b = io::write_all(1, b" |");
+fn bar(rt: &impl Print) -> io::Result<()> {
+    print!(rt; " |")
 }
 
 // A space and a number of 32 bits, in hexadecimal.
-fn hex(x: u64) {
-    let _s = io::write_all(1, b" ");
-    let _h = io::print_hex(1, x, 8);
+fn hex(rt: &impl Print, x: u64) -> io::Result<()> {
+    print!(rt; " {x:08x}")
 }
 
 // A word.
-fn one_word(x: u32) {
-    hex(x as u64);
+fn one_word(rt: &impl Print, x: u32) -> io::Result<()> {
+    hex(rt, u64::from(x))
 }
 
 // A byte.
-fn one_byte(x: u8) {
-    hex(x as u64);
+fn one_byte(rt: &impl Print, x: u8) -> io::Result<()> {
+    hex(rt, u64::from(x))
 }
 
 // The words of a slice.
-fn all_words(s: &[u32]) {
-    bar();
-    let mut i = 0;
-    while i < s.len() {
-        one_word(s[i]);
-        i += 1;
+fn all_words(rt: &impl Print, s: &[u32]) -> io::Result<()> {
+    bar(rt)?;
+    for x in s {
+        one_word(rt, *x)?;
     }
+    Ok(())
 }
 
 // The bytes of a slice.
-fn all_bytes(s: &[u8]) {
-    bar();
-    let mut i = 0;
-    while i < s.len() {
-        one_byte(s[i]);
-        i += 1;
+fn all_bytes(rt: &impl Print, s: &[u8]) -> io::Result<()> {
+    bar(rt)?;
+    for x in s {
+        one_byte(rt, *x)?;
     }
+    Ok(())
 }
 
 // The line's end.
-fn end() {
-    let _l = io::write_all(1, b"\n");
+fn end(rt: &impl Print) -> io::Result<()> {
+    println!(rt)
 }
 
 // The double of a bit pattern, a NaN's too.

@@ -1,6 +1,7 @@
 // Cases of the group trgsw, made by oracle/replay.py from the list that the oracle samples.
 use super::show;
 use params::Params;
+use std::io;
 
 fn set_0() -> Params {
     Params {
@@ -13,7 +14,7 @@ fn set_0() -> Params {
     }
 }
 
-fn trgsw_encrypt_torus() {
+fn trgsw_encrypt_torus(rt: &impl Print) -> io::Result<()> {
     let masks: [u32; 4] = [0xffffffff, 0xffffffff, 0xffffffff, 0xffffffff];
     let noise: [u32; 4] = [0x6ab9edf6, 0xd6de5048, 0x3d94e30c, 0xd2875811];
     let key_lv1: [u32; 2] = [0x0, 0x0];
@@ -29,10 +30,10 @@ fn trgsw_encrypt_torus() {
         &key_lv1,
         &mut out,
     );
-    show::words(b"trgsw_encrypt_torus", r, &out);
+    show::words(rt, "trgsw_encrypt_torus", r, &out)
 }
 
-fn trgsw_gen_bootstrapping_key() {
+fn trgsw_gen_bootstrapping_key(rt: &impl Print) -> io::Result<()> {
     let key_lv0: [u32; 1] = [0x1];
     let key_lv1: [u32; 2] = [0x1, 0x0];
     let masks: [u32; 4] = [0x28aca530, 0x793f76dd, 0x38619252, 0x89a7687];
@@ -49,18 +50,18 @@ fn trgsw_gen_bootstrapping_key() {
         &noise,
         &mut out,
     );
-    show::words(b"trgsw_gen_bootstrapping_key", r, &out);
+    show::words(rt, "trgsw_gen_bootstrapping_key", r, &out)
 }
 
-fn trgsw_decomposition() {
+fn trgsw_decomposition(rt: &impl Print) -> io::Result<()> {
     let a: [u32; 2] = [0xcefc13dc, 0x4806a38b];
     let b: [u32; 2] = [0xfe553fa7, 0xd82991c9];
     let mut out: [u32; 4] = [0x1fc471c6, 0x24fafb5, 0xf05f8fb0, 0x4de1da74];
     let r = decomposition::decomposition(set_0(), &a, &b, &mut out);
-    show::words(b"trgsw_decomposition", r, &out);
+    show::words(rt, "trgsw_decomposition", r, &out)
 }
 
-fn trgsw_external_product() {
+fn trgsw_external_product(rt: &impl Print) -> io::Result<()> {
     let rows: [u32; 8] = [
         0xffffffff, 0xffffffff, 0xffffffff, 0xffffffff, 0xffffffff, 0xffffffff, 0xffffffff,
         0xffffffff,
@@ -70,10 +71,10 @@ fn trgsw_external_product() {
     let mut outa: [u32; 2] = [0x625ae5ef, 0x93ec60bb];
     let mut outb: [u32; 2] = [0x8a8fc97c, 0xd99eb329];
     let r = trgsw::external_product(set_0(), &rows, &a, &b, &mut outa, &mut outb);
-    show::pair(b"trgsw_external_product", r, &outa, &outb);
+    show::pair(rt, "trgsw_external_product", r, &outa, &outb)
 }
 
-fn trgsw_cmux() {
+fn trgsw_cmux(rt: &impl Print) -> io::Result<()> {
     let a1: [u32; 2] = [0x1673128e, 0x60b81f93];
     let b1: [u32; 2] = [0x7ba49a0c, 0x148bbffe];
     let a2: [u32; 2] = [0xa4d7d956, 0x5e7851db];
@@ -84,10 +85,10 @@ fn trgsw_cmux() {
     let mut outa: [u32; 2] = [0x8789f261, 0x47ff789e];
     let mut outb: [u32; 2] = [0x3dbeddf6, 0xedccf609];
     let r = trgsw::cmux(set_0(), &a1, &b1, &a2, &b2, &rows, &mut outa, &mut outb);
-    show::pair(b"trgsw_cmux", r, &outa, &outb);
+    show::pair(rt, "trgsw_cmux", r, &outa, &outb)
 }
 
-fn trgsw_blind_rotate_step() {
+fn trgsw_blind_rotate_step(rt: &impl Print) -> io::Result<()> {
     let key: [u32; 8] = [
         0x3f2099bb, 0x9f2d3591, 0x7d56383f, 0xdeba7ea7, 0x94da63bb, 0x745aaa35, 0x207c741f,
         0xb7a08730,
@@ -102,10 +103,10 @@ fn trgsw_blind_rotate_step() {
         &mut a,
         &mut b,
     );
-    show::pair(b"trgsw_blind_rotate_step", r, &a, &b);
+    show::pair(rt, "trgsw_blind_rotate_step", r, &a, &b)
 }
 
-fn trgsw_blind_rotate() {
+fn trgsw_blind_rotate(rt: &impl Print) -> io::Result<()> {
     let src: [u32; 2] = [0x9a919a2, 0xf5145aaf];
     let key: [u32; 8] = [
         0xffffffff, 0xffffffff, 0xffffffff, 0xffffffff, 0xffffffff, 0xffffffff, 0xffffffff,
@@ -114,24 +115,24 @@ fn trgsw_blind_rotate() {
     let mut a: [u32; 2] = [0xba76eea3, 0x1ba75f9f];
     let mut b: [u32; 2] = [0xdeeeea20, 0x664bc56e];
     let r = blind_rotation::blind_rotate(set_0(), &src, &key, &mut a, &mut b);
-    show::pair(b"trgsw_blind_rotate", r, &a, &b);
+    show::pair(rt, "trgsw_blind_rotate", r, &a, &b)
 }
 
-fn trgsw_identity_key_switching() {
+fn trgsw_identity_key_switching(rt: &impl Print) -> io::Result<()> {
     let src: [u32; 3] = [0xd3fee3d2, 0x6c322529, 0x207feb15];
     let ksk: [u32; 4] = [0x9a455600, 0xbda8eb6, 0xf5fa2e4, 0x5e050b66];
     let mut out: [u32; 2] = [0x96cbe875, 0x6f4d259a];
     let r = switching::identity_key_switching(set_0(), &src, &ksk, &mut out);
-    show::words(b"trgsw_identity_key_switching", r, &out);
+    show::words(rt, "trgsw_identity_key_switching", r, &out)
 }
 
-pub fn run() {
-    trgsw_encrypt_torus();
-    trgsw_gen_bootstrapping_key();
-    trgsw_decomposition();
-    trgsw_external_product();
-    trgsw_cmux();
-    trgsw_blind_rotate_step();
-    trgsw_blind_rotate();
-    trgsw_identity_key_switching();
+pub fn run(rt: &impl Print) -> io::Result<()> {
+    trgsw_encrypt_torus(rt)?;
+    trgsw_gen_bootstrapping_key(rt)?;
+    trgsw_decomposition(rt)?;
+    trgsw_external_product(rt)?;
+    trgsw_cmux(rt)?;
+    trgsw_blind_rotate_step(rt)?;
+    trgsw_blind_rotate(rt)?;
+    trgsw_identity_key_switching(rt)
 }

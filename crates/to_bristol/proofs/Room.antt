@@ -1,7 +1,7 @@
 -- With room for any text an export answers what the circuit gets, and bytes past one more than the longest circuit change nothing: so what is left, and the line of its
 -- refusal, is what the program writes.
 -- Assumes nothing.
-use mathlib.Core.Path.{◌≡◌, sym, ap, ap₂, ◌∙◌}
+use mathlib.Core.Path.{◌≡◌, sym, ap, ◌∙◌}
 use mathlib.Core.List.{List, [], ◌++◌}
 use Prim.Native.Nat.{ℕ, ◌≤◌, ◌<◌}
 use native.Mathlib.Decide.{ℕ_discrete}
@@ -9,16 +9,15 @@ use native.Mathlib.Omega.{arith}
 use lib.ListN.{length, take, drop, length-append}
 use lib.Seq.{take_at}
 use Rattle.params.specs.declared.Answer.{Answer}
-use Rattle.params.specs.Refusal.{answer}
 use Rattle.params.proofs.Answers.{when_done, when_refused}
 use Rattle.circuit.specs.Form.{answer_of, longest}
 use Rattle.circuit.proofs.Accept.{accepted, answer_done}
 use Rattle.circuit.proofs.Longest.{answer_cut, accepted_whole}
-use Rattle.report.specs.Text.{refused_text, refused_line}
+use Rattle.report.specs.Text.{refused_text}
 use Rattle.bristol_export.specs.declared.Exported.{Exported}
 use Rattle.bristol_export.specs.Text.{exported, longest_text}
 use Rattle.bristol_export.specs.Export.{export_answer, export_said, export_out}
-use Rattle.bristol_export.proofs.Answers.{said, said_refused, said_fits, length_told}
+use Rattle.bristol_export.proofs.Answers.{said_refused, said_fits, length_told}
 use Rattle.bristol_export.proofs.Lengths.{never_longer}
 use Rattle.to_bristol.specs.Written.{text_of, line_of}
 

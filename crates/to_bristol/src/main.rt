@@ -1,12 +1,16 @@
 // Reads a circuit's bytes from standard input and writes its text in the Bristol Fashion form to standard output; of bytes that are no circuit it writes the refusal's
 // line to standard error instead (02, request 2026-02). The text is `bristol_export::export`'s and the line `report::refused`'s, which are proved; here is only reading
 // and writing. Input longer than any circuit, which is 8,331 bytes, is refused like any wrong length, so one byte more than that is enough to read.
-ghost use Rattle.std.specs.Prelude.{◌≡◌, List, ℕ, ◌≤◌, ◌<◌, length, take};
+#![tactic(auto)]
+
+ghost use Rattle.std.specs.Prelude.{◌≡◌, List, ℕ, ◌≤◌, ◌<◌, length, take, OnOk, IfSome};
+ghost use Rattle.std.specs.Io.KnownBytes.{Appends};
 ghost use Rattle.circuit.specs.Form.{longest};
 ghost use Rattle.bristol_export.specs.Text.{longest_text};
 ghost use Rattle.to_bristol.specs.Written.{text_of, line_of};
 
-use libc::{STDERR_FILENO, STDIN_FILENO, STDOUT_FILENO};
+use std::io;
+use std::io::{Read, Write};
 
 // How many bytes of the text there are, and of the line.
 #[derive(Drop)]
@@ -45,14 +49,27 @@ fn text_room() -> [u8; 71830]
     [0u8; 71830]
 }
 
-fn main() {
-    let mut input = [0u8; 8332];
-    let n = io::read_full(STDIN_FILENO, &mut input);
+// The whole program, of any input and two outputs. Of an input whose bytes are known it writes their text to the first, or the line of their refusal to the second, all
+// of it, and nothing else.
+fn write_text<R: Read, W: Write, E: Write>(
+    input: &mut R,
+    output: &mut W,
+    errors: &mut E,
+) -> io::Result<()>
+    ensures text { OnOk result (IfSome (R.remaining input.old) (λ bs. Appends (W.contents output.old) (W.contents output.new) (text_of bs))) }
+    ensures line { OnOk result (IfSome (R.remaining input.old) (λ bs. Appends (E.contents errors.old) (E.contents errors.new) (line_of bs))) }
+{
+    let mut bytes = [0u8; 8332];
+    let n = intake::read_up_to(input, &mut bytes)?;
     let mut text = text_room();
     let mut line = [0u8; 64];
-    let told = tell(&input, n, &mut text, &mut line);
-    let bytes = told.text;
+    let told = tell(&bytes, n, &mut text, &mut line);
+    let written = told.text;
     let characters = told.line;
-    io::write_all(STDOUT_FILENO, &text[..bytes]);
-    io::write_all(STDERR_FILENO, &line[..characters]);
+    output.write_all(&text[..written])?;
+    errors.write_all(&line[..characters])
+}
+
+fn main(rt: HostRuntime) -> io::Result<()> {
+    write_text(&mut rt.stdin(), &mut rt.stdout(), &mut rt.stderr())
 }
