@@ -69,21 +69,22 @@ def case(line, kinds, call, value, sets):
         given[argument] = f"&{change}{argument}"
         if change:
             shown.append(("bytes" if element == "u8" else "words", argument))
-    out = [f"fn {name}() {{"] + body + [f"    let r = {put(call, given)};"]
+    out = [f"fn {name}(rt: &impl Print) -> io::Result<()> {{"] + body + [f"    let r = {put(call, given)};"]
     text = f"{name} {int(results[0][0], 16):08x}"
     if value:
         out.append("    let answer = r.answer;")
         field = {"amount": "amount", "torus": "value"}.get(value)
         out += [f"    let {field} = r.{field};"] if field else []
         how, x = ("word", f"{field}.0") if field else (value, "r.value")
-        out.append(f'    show::{how}(b"{name}", answer, {x});')
+        out.append(f'    show::{how}(rt, "{name}", answer, {x})')
         text += " | %08x" % int(results[1][0], 16)
     else:
         how = shown[0][0] if len(shown) == 1 else "pair"
-        out.append(f'    show::{how}(b"{name}", r, {", ".join("&" + x for _, x in shown)});')
+        out.append(f'    show::{how}(rt, "{name}", r, {", ".join("&" + x for _, x in shown)})')
         text += "".join(" |" + "".join(" %08x" % int(w, 16) for w in words) for words in results[1:])
     if name == "key_gen_key_switching_key":
         looked, seen = lookups(numbers, given["SET"], results[1])
+        out[-1] += "?;"
         out, text = out + looked, text + seen
     return out + ["}", ""], text
 
@@ -92,7 +93,8 @@ def lookups(numbers, params, key):
     """`switching_row` on a generated key: its last row, which is its last n + 1 words, and one of k = 0, which there is not and which is empty."""
     n, nbit, _, _, basebit, t = (int(x, 16) for x in numbers)
     indices = [(1 << nbit) - 1, t - 1, (1 << basebit) - 1], [0, 0, 0]
-    lines = [f'    show::row(b"key_switching_row", key::switching_row({params}, &out, {", ".join(map(hex, x))}));' for x in indices]
+    lines = [f'    show::row(rt, "key_switching_row", key::switching_row({params}, &out, {", ".join(map(hex, x))}))' for x in indices]
+    lines[:-1] = [line + "?;" for line in lines[:-1]]
     return lines, "\nkey_switching_row |" + "".join(" %08x" % int(w, 16) for w in key[-n - 1 :]) + "\nkey_switching_row |"
 
 
@@ -106,16 +108,16 @@ def published(original):
         rows = re.search(r"trgsw_lv1: TrgswParams \{(.*?)\}", body, re.S).group(1)
         six = [int(re.search(rf"\b{f}: (\d+)", part).group(1)) for f, part in [("n", level0)] + [(f, rows) for f in ("nbit", "bgbit", "l", "basebit", "iks_t")]]
         routine = f"security_{name}" if name.endswith("_bit") else name
-        calls.append(f'    show::set(b"published_{name}", published::{routine}());')
+        calls.append(f'    show::set(rt, "published_{name}", published::{routine}())')
         want.append(f"published_{name} |" + "".join(" %08x" % x for x in six))
-    write("published", ["// The published sets, made by oracle/replay.py from the original's text.", "use super::show;", "use params::published;", ""], calls, want)
+    write("published", ["// The published sets, made by oracle/replay.py from the original's text.", "use std::io;", "", "use super::show;", "use params::published;", ""], calls, want)
 
 
 def write(group, lines, calls, want):
     os.makedirs("crates/replay/src", exist_ok=True)
     os.makedirs("target/replay", exist_ok=True)
     with open(f"crates/replay/src/{group}_cases.rt", "w") as f:
-        f.write("\n".join(lines + ["pub fn run() {"] + calls + ["}"]) + "\n")
+        f.write("\n".join(lines + ["pub fn run(rt: &impl Print) -> io::Result<()> {"] + [call + "?;" for call in calls[:-1]] + calls[-1:] + ["}"]) + "\n")
     with open(f"target/replay/{group}.out", "w") as f:
         f.write("\n".join(want) + "\n")
     print(f"{group}: {len(calls)} cases")
@@ -141,8 +143,8 @@ def main():
         if made:
             code += made[0]
             want.append(made[1])
-            calls.append(f"    {name}();")
-    head = [f"// Cases of the group {group}, made by oracle/replay.py from the list that the oracle samples.", "use super::show;", "use params::Params;", ""]
+            calls.append(f"    {name}(rt)")
+    head = [f"// Cases of the group {group}, made by oracle/replay.py from the list that the oracle samples.", "use std::io;", "", "use super::show;", "use params::Params;", ""]
     for numbers, k in sets.items():
         fields = ", ".join(f"{f}: 0x{x}" for f, x in zip(SIX, numbers))
         head += [f"fn set_{k}() -> Params {{", f"    Params {{ {fields} }}", "}", ""]

@@ -1,4 +1,4 @@
-//! Tells cargo where the proved archive is: `EGL_ARCHIVE_DIR`, or the folder into which `rt staticlib egl_c` writes it.
+//! Tells cargo where the proved archive is: `EGL_ARCHIVE_DIR`, or the folder into which `examples/archive` writes it.
 
 use std::env;
 use std::path::PathBuf;
@@ -14,7 +14,7 @@ fn main() {
     println!("cargo:rustc-link-lib=static=egl_c");
     println!("cargo:rustc-link-lib=m");
     if !archive.exists() {
-        println!("cargo:warning={} is missing: make it with `rt staticlib egl_c`, or name its folder in EGL_ARCHIVE_DIR", archive.display());
+        println!("cargo:warning={} is missing: make it with `examples/archive`, or name its folder in EGL_ARCHIVE_DIR", archive.display());
     }
     if env::var("CARGO_CFG_TARGET_ARCH").map_or(false, |a| a != "x86_64") {
         println!(

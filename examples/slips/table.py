@@ -66,30 +66,26 @@ def of_code(change):
     return change.file.split('/')[2] != 'proofs'
 
 
-def file_of(fact):
-    if '::' in fact:
-        crate, *path = fact.split('::')
-        return 'crates/%s/proofs/%s/Proof.antt' % (crate, '/'.join(path))
+def law_file(fact):
     crate, law = fact.split('/')
     return 'crates/%s/proofs/%s.antt' % (crate, law.split('.')[0])
 
 
 def plainer(clause):
-    """A clause without its brackets: r is the answer, x what the slice x held at the call, `x afterwards` what it holds then."""
-    clause = re.sub(r'^ensures ?(\w*) \{ λ \w+\. ⌜ (.*) ⌝ \}$', r'ensures \1: \2', clause).replace('ensures :', 'ensures:')
-    clause = re.sub(r'now \((\w+) \.exit\)', r'\1 afterwards', clause)
-    return re.sub(r'\(now \((\w+) \.entry\)\)|now \((\w+) \.entry\)', r'\1\2', clause)
+    """A clause without its brackets: result is the answer, x what the slice x held at the call, `x afterwards` what it holds then."""
+    clause = re.sub(r'^ensures ?(\w*) \{ (.*) \}$', r'ensures \1: \2', clause).replace('ensures :', 'ensures:')
+    return re.sub(r'\b(\w+)\.(?:now|old)\b', r'\1', re.sub(r'\b(\w+)\.new\b', r'\1 afterwards', clause))
 
 
 def statement(fact):
     """What the fact says in the sources' own words: a routine's promises, or a law's type. Empty where there is no such fact."""
-    if not there(file_of(fact)):
-        return []
     if '::' in fact:
         crate, *modules, name = fact.split('::')
         files = ['crates/%s/src/%s.rt' % (crate, file) for file in (['/'.join(modules)] if modules else ['lib', 'main'])]
         heads = [re.search(r'^(?:pub(?:\(\w+\))? )?fn %s\b.*?^\{' % name, read(file), re.M | re.S) for file in files if there(file)]
         return [plainer(line) for head in heads if head for line in re.findall(r'^ *(ensures.*)', head[0], re.M)]
+    if not there(law_file(fact)):
+        return []
     name = re.escape(fact.split('.')[1])
-    law = re.search(r'^ *(?:pub )?(%s : .*?)(?=^ *unfolding |^ *%s\b)' % (name, name), read(file_of(fact)), re.M | re.S)
+    law = re.search(r'^ *(?:pub )?(%s : .*?)(?=^ *unfolding |^ *%s\b)' % (name, name), read(law_file(fact)), re.M | re.S)
     return [line.strip() for line in law[1].rstrip().split('\n')] if law else []

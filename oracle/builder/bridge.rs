@@ -13,16 +13,11 @@ pub fn needed(archive: &[u8]) -> bool {
     elf.is_some_and(|w| w[18] == 62) && std::env::consts::ARCH != "x86_64"
 }
 
-/// The emulator: on the path, or the one that comes with rt.
+/// The emulator on the path.
 pub fn emulator() -> Option<PathBuf> {
     let paths = std::env::var_os("PATH")?;
     let found = |name: &str| std::env::split_paths(&paths).map(|d| d.join(name)).find(|f| f.exists());
-    if let Some(own) = found("qemu-x86_64") {
-        return Some(own);
-    }
-    let kit = fs::canonicalize(found("rt")?).ok()?.parent()?.parent()?.to_path_buf();
-    let beside = kit.join("on").join(std::env::consts::ARCH).join("toolchain/bin/qemu-x86_64");
-    beside.exists().then_some(beside)
+    found("qemu-x86_64-static").or_else(|| found("qemu-x86_64"))
 }
 
 const HEAD: &str = r#"/* Made by oracle/builder. Answers calls read from standard input. */

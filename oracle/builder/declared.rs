@@ -94,9 +94,9 @@ fn rust_function(text: &str) -> Option<Function> {
     Some(Function { name: name.to_string(), parameters: rust_parameters(list), result: result.to_string() })
 }
 
-/// What a file of egl_c exports: functions marked `#[no_mangle]` and `pub extern "C"`.
+/// What a file of egl_c exports: functions marked `#[unsafe(no_mangle)]` and `pub extern "C"`.
 pub fn exports(text: &str) -> Vec<Function> {
-    text.split("#[no_mangle]\npub extern \"C\" fn ").skip(1).filter_map(rust_function).collect()
+    text.split("#[unsafe(no_mangle)]\npub extern \"C\" fn ").skip(1).filter_map(rust_function).collect()
 }
 
 /// What a Rust file declares to be linked, a line each, types and result written out.

@@ -59,7 +59,7 @@ fn faults(root: &Path, archive: &[u8]) -> (Vec<String>, usize) {
 
     let mut faults = Vec::new();
     // a function is exported by two marks on two lines: one without the other is a slip
-    for mark in ["#[no_mangle]", "extern \"C\" fn "] {
+    for mark in ["#[unsafe(no_mangle)]", "extern \"C\" fn "] {
         let count: usize = sources.iter().map(|text| text.matches(mark).count()).sum();
         if count != exports.len() {
             faults.push(format!("egl_c's source has {count} times {mark}, and {} exports", exports.len()));

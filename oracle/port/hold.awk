@@ -1,4 +1,4 @@
-# Reads the list of the original's public items (file, tab, item), then docs/PORT.md. There a section `## src/NAME` has a table of three columns: items of that file, in
+# Reads the list of the original's public items (file, tab, item), then docs/PORT-OTHER.md. There a section `## src/NAME` has a table of three columns: items of that file, in
 # their order; where they stand here, as `crate/file.rt`: `name`, `name`; .. (a file of crates/crate/src, or with .rs a path from the root), as `crate/`, or not taken;
 # and what changed. Routines and crates are looked for wherever they are named in this form.
 
@@ -54,7 +54,7 @@ function looked_for(cell,    file, path, rest, name) {
     rest = rest cell
     while (match(rest, /`[a-z_0-9]+\/`/)) {
         name = substr(rest, RSTART + 1, RLENGTH - 3)
-        if (("\n" text_of("crates.txt")) !~ ("\n" name ":")) fault(where ": there is no crate `" name "`")
+        if (("\n" text_of("crates.txt")) !~ ("\n" name "( staticlib)?:")) fault(where ": there is no crate `" name "`")
         rest = substr(rest, 1, RSTART - 1) "," substr(rest, RSTART + RLENGTH)
     }
     return rest
@@ -66,12 +66,12 @@ function hold(file,    i, name, last) {
     for (i = 1; i <= told[file]; i++) {
         name = tells[file, i]
         has[file, name]
-        if (!((file, name) in place)) fault("docs/PORT.md has `" name "`, which is no public item of " file)
-        else if (place[file, name] <= last) fault("docs/PORT.md has `" name "` of " file " out of its order")
+        if (!((file, name) in place)) fault("docs/PORT-OTHER.md has `" name "`, which is no public item of " file)
+        else if (place[file, name] <= last) fault("docs/PORT-OTHER.md has `" name "` of " file " out of its order")
         else last = place[file, name]
     }
     for (i = 1; i <= items[file]; i++)
-        if (!((file, item[file, i]) in has)) fault("docs/PORT.md lacks `" item[file, i] "` of " file)
+        if (!((file, item[file, i]) in has)) fault("docs/PORT-OTHER.md lacks `" item[file, i] "` of " file)
 }
 
 FILENAME == ARGV[1] {
@@ -87,7 +87,7 @@ FILENAME == ARGV[1] {
     if (section) sections[section]
 }
 
-{ where = "docs/PORT.md:" FNR }
+{ where = "docs/PORT-OTHER.md:" FNR }
 
 !section || !/^\|/ { looked_for($0) }
 
