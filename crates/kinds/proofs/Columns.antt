@@ -1,14 +1,14 @@
 -- The tables of src/lib.rt are the columns of the table of kinds: each is tested whole.
 -- Assumes nothing.
-use mathlib.Core.Path.{◌≡◌, refl, sym, ap, ◌∙◌}
-use mathlib.Core.Bool.{Bool, true, false, not, xor, cond}
+use mathlib.Core.Path.{◌≡◌, refl, sym, ◌∙◌}
+use mathlib.Core.Bool.{Bool, true, false, xor, cond}
 use mathlib.Core.List.{List, [], ◌∷◌}
 use Prim.Native.Nat.{ℕ, zero, suc, ◌+◌, ◌*◌, ◌/◌, ◌%◌, ◌^◌, ◌≤◌, ◌<◌}
 use native.Mathlib.Omega.{arith}
-use lib.Dec.{leb, ltb, eqb, eqb→eq, leb→le, lit≤, lit<}
-use lib.ListN.{length, get_or, get_or-eq_default}
+use lib.Dec.{leb, ltb, eqb, eqb→eq, leb→le, lit≤}
+use lib.ListN.{get_or, get_or-eq_default}
 use mir.Val.{bool_byte}
-use Rattle.kinds.specs.Kinds.{Entry, kinds, kind_of, kind_entry, bit_meaning}
+use Rattle.kinds.specs.Kinds.{kinds, kind_of, kind_entry, bit_meaning}
 use Rattle.kinds.proofs.Table.{both, both_left, both_right, every, entry}
 use Rattle.ring.specs.Bit.{truth, bit_number}
 

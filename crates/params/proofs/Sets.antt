@@ -1,7 +1,6 @@
 -- The published sets: which are in range, by computing the table at each.
 -- Assumes nothing.
 use mathlib.Core.Path.{◌≡◌, refl}
-use Prim.Native.Nat.{ℕ}
 use Rattle.params.specs.Ranges.{params_number}
 use Rattle.params.specs.Published.{security80, security110, security128, uint1, uint2, uint3, uint4, uint5, uint6, uint7, uint8}
 

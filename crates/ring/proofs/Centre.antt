@@ -1,7 +1,7 @@
 -- Drift: products reckoned in whole numbers modulo X^N + 1 reduce to the words' product (`whole_times`), and a whole number brought modulo 2^32
 -- into -2^31 to 2^31 - 1 is settled by its word (`centre`, `centre-red`, `centre_only`).
 -- Assumes nothing.
-use Rattle.std.proofs.Common.{◌≡◌, ℕ, zero, suc, ◌+◌, ◌-◌, ◌*◌, ◌%◌, ◌^◌, ◌<◌, ◌≤◌, Bool, cond, ltb, leb, List, [], ◌∷◌, ℤ, pos, negsuc, sym, refl, ap, ◌∙◌, ap₂, mod-lt, mod-eq_of_lt, arith, ltb→lt, nltb→le}
+use Rattle.std.proofs.Common.{◌≡◌, ℕ, suc, ◌+◌, ◌-◌, ◌<◌, ◌≤◌, Bool, cond, ltb, leb, List, ℤ, pos, negsuc, sym, refl, ap, ◌∙◌, ap₂, mod-lt, mod-eq_of_lt, arith, ltb→lt, nltb→le}
 use mathlib.Core.Path.{fun_ext}
 use lib.Dec.{nleb→lt}
 use lib.Signed.{mag}

@@ -1,7 +1,7 @@
 -- The definitions at worked examples: what negation is beside the complement, a product worked out by hand, the ends of the centred numbers. Each side computes.
 -- Document 01's own cases are in egl_c.
 -- Assumes nothing.
-use Rattle.std.proofs.Common.{◌≡◌, ℕ, [], ◌∷◌, pos, negsuc, refl}
+use Rattle.std.proofs.Common.{◌≡◌, [], ◌∷◌, pos, negsuc, refl}
 use Rattle.ring.specs.Word.{Q, neg}
 use Rattle.ring.specs.Sums.{sum_to, tab}
 use Rattle.ring.specs.Poly.{before, times}

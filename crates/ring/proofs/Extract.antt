@@ -1,7 +1,7 @@
 -- The phase of an extracted sample: the coefficient of the phase, and one for each one of the key after the place, for there the Rust
 -- complements instead of negating.
 -- Assumes nothing.
-use Rattle.std.proofs.Common.{◌≡◌, ℕ, zero, suc, ◌+◌, ◌-◌, ◌*◌, ◌%◌, ◌<◌, ◌≤◌, Bool, true, false, cond, leb, List, [], ◌∷◌, ◌++◌, length, sym, ap, ◌∙◌, ap₂}
+use Rattle.std.proofs.Common.{◌≡◌, ℕ, ◌+◌, ◌-◌, ◌*◌, ◌%◌, ◌<◌, Bool, true, false, cond, leb, List, [], ◌∷◌, ◌++◌, length, sym, ap, ◌∙◌, ap₂}
 use lib.ListN.{get_or-append}
 use lib.Seq.{get_or_at}
 use Rattle.ring.proofs.Ring.{ring}

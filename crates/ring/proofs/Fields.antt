@@ -1,7 +1,7 @@
 -- The fields of a word, of w bits each, from the top: each is below 2^w, and the first k of them with what they count make the word without the rest,
 -- by induction on k.
 -- Assumes nothing.
-use Rattle.std.proofs.Common.{◌≡◌, ℕ, zero, suc, ◌+◌, ◌-◌, ◌*◌, ◌/◌, ◌%◌, ◌^◌, ◌<◌, ◌≤◌, sym, ap, ◌∙◌, mod-lt, zero-mul, arith, pow_pos, pow-add, shr-shr}
+use Rattle.std.proofs.Common.{◌≡◌, ℕ, zero, suc, ◌+◌, ◌-◌, ◌*◌, ◌/◌, ◌%◌, ◌^◌, ◌<◌, ◌≤◌, sym, ap, mod-lt, zero-mul, arith, pow_pos, pow-add, shr-shr}
 use native.Mathlib.Nat.{div-eq_of_lt}
 use lib.Pow.{split}
 use Rattle.ring.specs.Word.{Q, field_of}

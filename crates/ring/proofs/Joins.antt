@@ -1,7 +1,7 @@
 -- Lists of one length joined: a loop that writes them one after another over a list, and the part of the whole that each is; and lists that are alike, or joined in two runs.
 -- Inductions on the number of lists; the lengths place each part.
 -- Assumes nothing.
-use Rattle.std.proofs.Common.{◌≡◌, ℕ, zero, suc, ◌+◌, ◌-◌, ◌*◌, ◌<◌, ◌≤◌, List, [], ◌∷◌, ◌++◌, length, take, drop, sym, refl, ap, ◌∙◌, ap₂, append_assoc, append-nil, add-zero, add-suc, mul-le-mul_right, suc-mul, zero-mul, add-one, arith, length-append, length-drop, drop_of_length-le, take_all, drop-drop, take_at, drop_at}
+use Rattle.std.proofs.Common.{◌≡◌, ℕ, zero, suc, ◌+◌, ◌-◌, ◌*◌, ◌<◌, ◌≤◌, List, ◌++◌, length, take, drop, sym, refl, ap, ◌∙◌, ap₂, append_assoc, append-nil, add-zero, add-suc, mul-le-mul_right, suc-mul, zero-mul, add-one, arith, length-append, length-drop, drop_of_length-le, take_all, drop-drop, take_at, drop_at}
 use native.Mathlib.Decide.{dec_lt}
 use lib.Seq.{drop-append-le, take-append-le}
 use borrow.Rule.Slice.PartMut.{put_mid}

@@ -1,7 +1,7 @@
 -- The laws of the lists of coefficients: the product is associative and commutative and distributes, and the phase of a sum, of a difference
 -- and of a rotation by the Rust, which complements. Each is a law of rings, carried over by `value`.
 -- Assumes nothing.
-use Rattle.std.proofs.Common.{◌≡◌, ℕ, zero, suc, ◌+◌, ◌-◌, ◌*◌, ◌%◌, ◌<◌, ◌≤◌, Bool, cond, ltb, List, [], ◌∷◌, sym, refl, ap, ◌∙◌, mod-lt, arith, lit<}
+use Rattle.std.proofs.Common.{◌≡◌, ℕ, ◌+◌, ◌-◌, ◌*◌, ◌%◌, ◌<◌, ◌≤◌, Bool, cond, ltb, List, [], ◌∷◌, sym, refl, ap, ◌∙◌, mod-lt, arith, lit<}
 use Rattle.ring.proofs.Ring.{ring}
 use Rattle.ring.proofs.Phase as R
 use Rattle.ring.proofs.Solve.{#, :1, ◌:+◌, ◌:-◌, ◌:*◌, solve}

@@ -1,7 +1,7 @@
 -- Loops that add to every word of a slice: `add_by` says what one call does, `acc_to` where a loop of such calls stands.
 -- A turn adds one term to each word's sum; lists are equal word by word.
 -- Assumes nothing.
-use Rattle.std.proofs.Common.{◌≡◌, ℕ, zero, suc, ◌+◌, ◌%◌, ◌<◌, ◌≤◌, List, length, sym, refl, ap, ◌∙◌, add-zero, mod-eq_of_lt, le_antisymm, add-one, arith}
+use Rattle.std.proofs.Common.{◌≡◌, ℕ, ◌+◌, ◌%◌, ◌<◌, ◌≤◌, List, length, sym, refl, ap, ◌∙◌, add-zero, mod-eq_of_lt, le_antisymm, add-one, arith}
 use Rattle.ring.specs.Word.{Q, at}
 use Rattle.ring.specs.Sums.{sum_to, tab}
 use Rattle.ring.specs.Poly.{plus}

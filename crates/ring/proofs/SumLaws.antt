@@ -1,7 +1,7 @@
 -- Laws of true sums over numbers: congruence (also modulo Q), linearity, exchange, splitting, and the step and the end of a loop that sums.
 -- Inductions on the number of terms; omega knows the rest.
 -- Assumes nothing.
-use Rattle.std.proofs.Common.{◌≡◌, ℕ, zero, suc, ◌+◌, ◌-◌, ◌*◌, ◌/◌, ◌%◌, ◌<◌, ◌≤◌, sym, refl, ap, ◌∙◌, ap₂, add-zero, add-suc, le_antisymm, add-one, arith}
+use Rattle.std.proofs.Common.{◌≡◌, ℕ, zero, suc, ◌+◌, ◌-◌, ◌*◌, ◌%◌, ◌<◌, ◌≤◌, sym, refl, ap, ◌∙◌, ap₂, add-zero, add-suc, le_antisymm, add-one, arith}
 use native.Mathlib.Nat.{add-mod}
 use Rattle.ring.specs.Word.{Q}
 use Rattle.ring.specs.Sums.{sum_to}

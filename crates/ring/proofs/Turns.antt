@@ -1,6 +1,6 @@
 -- Rotations by the Rust compose, amounts added modulo 2N: the list goes on past its end complemented, and a rotation moves along it.
 -- Assumes nothing.
-use Rattle.std.proofs.Common.{◌≡◌, ℕ, zero, suc, ◌+◌, ◌-◌, ◌*◌, ◌/◌, ◌%◌, ◌<◌, ◌≤◌, Bool, cond, ltb, List, sym, ap, ◌∙◌, mod-lt, mod-eq_of_lt, arith, ltb→lt, nltb→le, le-ltb, lt-ltb}
+use Rattle.std.proofs.Common.{◌≡◌, ℕ, ◌+◌, ◌-◌, ◌*◌, ◌/◌, ◌%◌, ◌<◌, ◌≤◌, Bool, cond, ltb, List, sym, ap, ◌∙◌, mod-lt, mod-eq_of_lt, arith, ltb→lt, nltb→le, le-ltb, lt-ltb}
 use mathlib.Core.Path.{fun_ext}
 use native.Mathlib.Nat.{mod-add-mod, add-mod_right, add-mul-mod_self_left, div-add-mod}
 use Rattle.ring.proofs.Value.{Reduced, below, by_test}

@@ -1,7 +1,7 @@
 -- The lists of coefficients as elements of the ring of polynomials modulo X^N + 1 over the words: `value`, what each operation of `Coef` means
 -- there, and that reduced lists with one value are one list. Laws of rings so become laws of lists.
 -- Assumes nothing.
-use Rattle.std.proofs.Common.{◌≡◌, ℕ, zero, suc, ◌+◌, ◌-◌, ◌*◌, ◌/◌, ◌%◌, ◌<◌, ◌≤◌, Bool, true, false, cond, not, T, ltb, leb, List, [], ◌∷◌, length, sym, ap, ◌∙◌, ap₂, le_of_lt, mod-lt, mod-eq_of_lt, add_comm as +_comm, arith, ltb→lt, leb→le, nltb→le, ext_get_or}
+use Rattle.std.proofs.Common.{◌≡◌, ℕ, zero, suc, ◌+◌, ◌-◌, ◌*◌, ◌%◌, ◌<◌, ◌≤◌, Bool, true, false, cond, not, T, ltb, leb, List, [], ◌∷◌, length, sym, ap, ◌∙◌, ap₂, le_of_lt, mod-lt, mod-eq_of_lt, add_comm as +_comm, arith, ltb→lt, leb→le, nltb→le, ext_get_or}
 use mathlib.Core.Path.{fun_ext}
 use lib.Dec.{nleb→lt}
 use Rattle.ring.proofs.Tab.{at-tab, tab_below}

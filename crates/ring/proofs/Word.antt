@@ -1,6 +1,6 @@
 -- The numbers below M, with sums and products reduced modulo M, are a commutative ring (`word_ring`); `word n` is n reduced.
 -- Assumes nothing.
-use Rattle.std.proofs.Common.{◌≡◌, ℕ, zero, suc, ◌+◌, ◌-◌, ◌*◌, ◌/◌, ◌%◌, ◌<◌, ◌≤◌, sym, refl, ap, ◌∙◌, add-zero as +-zero, add_assoc as +_assoc, mod-lt, mod-eq_of_lt, mul_assoc as *-assoc, mul_comm as *-comm, add_comm as +_comm, mul-one as *-one, mul-add as *-+, arith}
+use Rattle.std.proofs.Common.{◌≡◌, ℕ, zero, suc, ◌+◌, ◌-◌, ◌*◌, ◌/◌, ◌%◌, ◌<◌, ◌≤◌, sym, refl, ap, ◌∙◌, add-zero as +-zero, add_assoc as +_assoc, mod-lt, mod-eq_of_lt, mul_assoc as *-assoc, mul_comm as *-comm, add_comm as +_comm, mul-add as *-+, arith}
 use mathlib.Core.HLevel.{Σ_set, Σ_prop_path, prop→set, hedberg}
 use native.Mathlib.Nat.{mod-add-mod, add-mod-mod, mod_self, mod-mod, zero-mod, add-mod, div-add-mod, add-mul-mod_self_left}
 use native.Mathlib.Decide.{ℕ_discrete}

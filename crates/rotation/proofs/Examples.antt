@@ -2,7 +2,6 @@
 -- just below a wrap, and the same word as a mask.
 -- Assumes nothing.
 use mathlib.Core.Path.{◌≡◌, refl}
-use Prim.Native.Nat.{ℕ}
 use Rattle.params.specs.declared.Params.{Params}
 use Rattle.params.specs.Ranges.{params_number}
 use Rattle.params.specs.Published.{numbers, security128}

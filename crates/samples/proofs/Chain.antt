@@ -16,7 +16,7 @@ use Rattle.params.specs.Ranges.{params_number}
 use Rattle.params.specs.Sizes.{size, bootstrapping_words}
 use Rattle.params.proofs.Answers.{when_done}
 use Rattle.params.proofs.Ranges.{in_range, size_from}
-use Rattle.trlwe.specs.Extract.{extracted, extract_out}
+use Rattle.trlwe.specs.Extract.{extract_out}
 use Rattle.trlwe.proofs.Uses.{sample_extract_index_done}
 use Rattle.trgsw.specs.External.{cmux_of}
 use Rattle.blind_rotation.specs.Blind.{turned, blind_step, steps_to, start_of, blind_rotated}

@@ -1,6 +1,6 @@
 -- The refusals of calls with a key: the code checks lengths, then the key's words, then the plaintext or the modulus. Each step is a part of the table.
 -- Assumes nothing.
-use mathlib.Core.Path.{◌≡◌, refl, sym, ◌∙◌}
+use mathlib.Core.Path.{◌≡◌, refl, sym}
 use mathlib.Core.Bool.{true}
 use mathlib.Core.List.{List, [], ◌∷◌}
 use Prim.Native.Nat.{ℕ}
