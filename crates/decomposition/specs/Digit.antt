@@ -18,7 +18,7 @@ digit_poly p i a = tab (size p) (λ x. digit_of p (at a x) i)
 unfoldable pub digit_weight : Params → ℕ → ℕ
 digit_weight p i = 2 ^ (32 - (i + 1) * p.bgbit)
 
--- The word x with its 32 - L-as-BGBIT low bits cleared: what its digits recompose to (01, trgsw). L-as-BGBIT = 32 clears none.
+-- The word x with its 32 - L·BGBIT low bits cleared: what its digits recompose to (01, trgsw). L·BGBIT = 32 clears none.
 unfoldable pub cleared : Params → ℕ → ℕ
 cleared p x = x / 2 ^ (32 - p.l * p.bgbit) * 2 ^ (32 - p.l * p.bgbit)
 

@@ -11,7 +11,7 @@ use Rattle.key.specs.Offset.{offset, offset_out}
 use Rattle.key.specs.OffsetRule.{offset_rule}
 use Rattle.key.specs.Switching.{lookup_number, place_out}
 
--- by 01's sum and by its rule: document 01's P case, Uint1's, the ends of BGBIT with one digit, and L-as-BGBIT 32, where the rule's exponent is BGBIT - 1
+-- by 01's sum and by its rule: document 01's P case, Uint1's, the ends of BGBIT with one digit, and L·BGBIT 32, where the rule's exponent is BGBIT - 1
 abbrev Both : Params → ℕ → Type 0
 Both p w = (offset p ≡ w) × (offset_rule p ≡ w)
 

@@ -3,8 +3,8 @@ use Rattle.std.specs.Prelude.{ℕ, ◌*◌, ◌≤◌, leb}
 use Rattle.params.specs.declared.Params.{Params}
 use Rattle.params.specs.Refusal.{check}
 
--- Refusal 1 where a number is outside its range, else 0: n 1..1,100; NBIT 1..10; BGBIT 1..24, L at least 1, L-as-BGBIT at most 32; BASEBIT 1..6,
--- T at least 1, BASEBIT-as-T at most 30. The products are those of whole numbers: nothing wraps on the way.
+-- Refusal 1 where a number is outside its range, else 0: n 1..1,100; NBIT 1..10; BGBIT 1..24, L at least 1, L·BGBIT at most 32; BASEBIT 1..6,
+-- T at least 1, BASEBIT·T at most 30. The products are those of whole numbers: nothing wraps on the way.
 unfoldable pub params_number : Params → ℕ
 params_number p =
     check (leb 1 p.n) 1 (check (leb p.n 1100) 1

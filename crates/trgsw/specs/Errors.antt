@@ -23,6 +23,6 @@ bootstrapping_row_error p z rows m r =
 unfoldable pub digit_errors : Params → List ℕ → List ℕ → ℕ → Pair → List ℕ
 digit_errors p z rows m x = total (size p) (p.l + p.l) (λ r. times (size p) (pair_digit p x r) (bootstrapping_row_error p z rows m r))
 
--- The low bits of each coefficient, 32 - L-as-BGBIT of them: what the decomposition clears.
+-- The low bits of each coefficient, 32 - L·BGBIT of them: what the decomposition clears.
 unfoldable pub low_poly : Params → List ℕ → List ℕ
 low_poly p a = tab (size p) (λ i. at a i % 2 ^ (32 - p.l * p.bgbit))

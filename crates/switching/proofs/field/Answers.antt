@@ -1,4 +1,4 @@
--- `switching::field` meets its contract: the powers are exact, since BASEBIT-as-T is at most 30.
+-- `switching::field` meets its contract: the powers are exact, since BASEBIT·T is at most 30.
 -- Assumes nothing.
 use mathlib.Core.Path.{◌≡◌, ap₂, ◌∙◌}
 use Prim.Native.Nat.{ℕ, ◌+◌, ◌-◌, ◌*◌, ◌/◌, ◌%◌, ◌^◌, ◌<◌}
