@@ -8,7 +8,8 @@ use std::io;
 use std::io::Read;
 
 // Reads into the front of the slice until it is full or the input ends, and answers how many bytes were read. Where the input's bytes are known, these are its first
-// ones, as many as the slice takes, and it has the others left. A read that fails is an error, whatever was read before it: the input has lost what stands at the front.
+// ones, as many as the slice takes, and it has the others left. A read that fails is an error, whatever was read before it, and then the input has lost what stands at the
+// front of the slice. That an error comes from a read and from nothing else, no clause can tell: a reader's errors have no definition.
 pub fn read_up_to<R: Read>(input: &mut R, buffer: &mut [u8]) -> io::Result<usize>
     ensures fits { IfOk result (λ n. n ≤ length buffer.new) }
     ensures first { IfOk result (λ n. IfSome (R.remaining input.old) (λ bs. take (length buffer.new) bs ≡ take n buffer.new)) }
