@@ -19,5 +19,5 @@ pub extern "C" fn egl_params_check(
 ) -> u64
     ensures { result ≡ packed (answer (params_number (numbers n nbit bgbit l basebit t))) }
 {
-    pack(params::check(numbers(n, nbit, bgbit, l, basebit, t)))
+    pack(params::check_answer(numbers(n, nbit, bgbit, l, basebit, t)))
 }

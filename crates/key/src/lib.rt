@@ -50,7 +50,7 @@ fn offset_by_rule(p: Params) -> u32
 pub fn decomposition_offset(p: Params) -> Offset
     ensures { result ≡ offset_out p }
 {
-    let answer = params::check(p);
+    let answer = params::check_answer(p);
     if answer.number != 0 {
         return Offset {
             answer,

@@ -17,6 +17,10 @@ use Rattle.packing.proofs.bit_number as bit_number_call
 use Rattle.packing.specs.contracts.bit_number as bit_number_c
 use Rattle.packing.proofs.low_word as low_word
 use Rattle.packing.specs.contracts.low_word as low_word_c
+use Rattle.packing.proofs.pack_outcome as pack_outcome
+use Rattle.packing.specs.contracts.pack_outcome as pack_outcome_c
+use Rattle.packing.proofs.pack_value as pack_value
+use Rattle.packing.specs.contracts.pack_value as pack_value_c
 
 pub numbers_determined : Determined numbers_c.ended numbers.Reads.Learnt
 numbers_determined κs a x y v w = said
@@ -41,3 +45,9 @@ bit_number_determined κs a x y v w = said
 
 pub low_word_determined : Determined low_word_c.ended low_word.Reads.Learnt
 low_word_determined κs a x y v w = said
+
+pub pack_outcome_determined : Determined pack_outcome_c.ended pack_outcome.Reads.Learnt
+pack_outcome_determined κs a x y v w = said
+
+pub pack_value_determined : Determined pack_value_c.ended pack_value.Reads.Learnt
+pack_value_determined κs a x y v w = said

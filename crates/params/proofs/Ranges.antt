@@ -1,17 +1,20 @@
 -- Parameters that are not refused lie in their ranges, and the other way round, and then every length is small: the table is taken apart check by check and put
 -- together again, and the bounds are products of bounds.
 -- Assumes nothing.
-use mathlib.Core.Path.{◌≡◌}
+use mathlib.Core.Path.{◌≡◌, refl, ◌∙◌}
+use mathlib.Core.Bool.{Bool, true, false, cond, ◌&&◌}
 use Prim.Native.Nat.{ℕ, ◌+◌, ◌-◌, ◌*◌, ◌≤◌, ◌<◌}
 use native.Mathlib.Nat.{mul-le-mul, le-mul_of_pos_right}
 use native.Mathlib.Decide.{ℕ_discrete}
 use native.Mathlib.Omega.{arith}
 use borrow.Author.Tests.{leb-true, le-leb, eq-eqb, ne_eqb}
-use lib.Dec.{lit<}
+use lib.Dec.{lit<, leb}
 use lib.Pow.{pow_mono, pow_pos}
 use Rattle.params.specs.declared.Params.{Params}
 use Rattle.params.specs.Ranges.{params_number, InRange}
 use Rattle.params.specs.Sizes.{size, base, sizes_of, sizes_in}
+use Rattle.params.specs.Refusal.{check}
+use Rattle.params.specs.Private.{fits}
 use Rattle.params.proofs.Answers.{passed}
 
 pub in_range : (p : Params) → params_number p ≡ 0 → InRange p
@@ -63,6 +66,38 @@ not_refused p r =
       le-leb _ _ r.t_from,
       le-leb _ _ r.fields_to,
     )
+
+-- ---- the ranges as tests
+
+twelve : (a b c d e f g h i j k l : Bool)
+    → check a 1 (check b 1 (check c 1 (check d 1 (check e 1 (check f 1 (check g 1 (check h 1 (check i 1 (check j 1 (check k 1 (check l 1 0)))))))))))
+    ≡ cond ((a && (b && (c && d))) && ((e && (f && (g && h))) && (i && (j && (k && l))))) 0 1
+twelve false b c d e f g h i j k l = refl
+twelve true false c d e f g h i j k l = refl
+twelve true true false d e f g h i j k l = refl
+twelve true true true false e f g h i j k l = refl
+twelve true true true true false f g h i j k l = refl
+twelve true true true true true false g h i j k l = refl
+twelve true true true true true true false h i j k l = refl
+twelve true true true true true true true false i j k l = refl
+twelve true true true true true true true true false j k l = refl
+twelve true true true true true true true true true false k l = refl
+twelve true true true true true true true true true true false l = refl
+twelve true true true true true true true true true true true false = refl
+twelve true true true true true true true true true true true true = refl
+
+-- the table's number is 0 where they all pass, and else 1
+pub by_fits : (p : Params) → params_number p ≡ cond (fits p) 0 1
+unfolding params_number fits
+by_fits p =
+    twelve (leb 1 p.n) (leb p.n 1100) (leb 1 p.nbit) (leb p.nbit 10) (leb 1 p.bgbit) (leb p.bgbit 24) (leb 1 p.l) (leb (p.l * p.bgbit) 32)
+    (leb 1 p.basebit) (leb p.basebit 6) (leb 1 p.t) (leb (p.basebit * p.t) 30)
+
+pub number_fits : (p : Params) → fits p ≡ true → params_number p ≡ 0
+number_fits p e = by_fits p ∙ rw e
+
+pub number_unfit : (p : Params) → fits p ≡ false → params_number p ≡ 1
+number_unfit p e = by_fits p ∙ rw e
 
 -- ---- bounds
 

@@ -1,7 +1,9 @@
 -- The ranges of the six numbers (01, 'Parameters').
-use Rattle.std.specs.Prelude.{ℕ, ◌*◌, ◌≤◌, leb}
+use Rattle.std.specs.Prelude.{Result, Ok, ℕ, ◌*◌, ◌≤◌, eqb, leb}
 use Rattle.params.specs.declared.Params.{Params}
-use Rattle.params.specs.Refusal.{check}
+use Rattle.params.specs.declared.refusal.Refusal.{Refusal}
+use Rattle.params.specs.declared.refusal.Refusal.TheVariants.{Parameters}
+use Rattle.params.specs.Refusal.{check, unless}
 
 -- Refusal 1 where a number is outside its range, else 0: n 1..1,100; NBIT 1..10; BGBIT 1..24, L at least 1, L·BGBIT at most 32; BASEBIT 1..6,
 -- T at least 1, BASEBIT·T at most 30. The products are those of whole numbers: nothing wraps on the way.
@@ -14,6 +16,10 @@ params_number p =
     (check (leb 1 p.basebit) 1 (check (leb p.basebit 6) 1
     (check (leb 1 p.t) 1 (check (leb (p.basebit * p.t) 30) 1
     0)))))))))))
+
+-- What the check of parameters hands back: refusal 1, or the parameters themselves, which are then known to be in range.
+abbrev pub checked : Params → Result Params Refusal
+checked p = unless (eqb (params_number p) 0) Parameters (Ok p)
 
 -- What holds of parameters that are not refused: the same ranges, as facts.
 pub record InRange (p : Params) : Type 0 where

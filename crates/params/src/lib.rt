@@ -1,12 +1,19 @@
 #![tactic(auto)]
 // The parameters at run time (src/params.rs has them as constants), the answer of every routine, and the length of every lent slice.
-ghost use Rattle.std.specs.Prelude.{◌≡◌, ◌+◌, ◌-◌, ◌*◌, ◌≤◌, ◌<◌};
+ghost use Rattle.std.specs.Prelude.{◌≡◌};
 ghost use Rattle.params.specs.Refusal.{answer};
-ghost use Rattle.params.specs.Ranges.{params_number, InRange};
-ghost use Rattle.params.specs.Private.{switching_number};
-ghost use Rattle.params.specs.Sizes.{sizes_of, sizes_in};
+ghost use Rattle.params.specs.Ranges.{params_number};
+ghost use Rattle.params.specs.Sizes.{sizes_of};
 
+use checks::{fits, sizes_in};
+use std::marker::Model;
+
+mod checks;
 pub mod published;
+mod refusal;
+
+pub use checks::check;
+pub use refusal::Refusal;
 
 // The six numbers, by value: the names of `TlweParams` and `TrgswParams`; t is IKS_T, and N is 2^nbit.
 #[derive(Clone, Copy)]
@@ -48,58 +55,41 @@ pub struct Sizes {
     pub bskmasks: usize,
 }
 
-// 1 where a number is outside its range, else 0. The products are worked out in 64 bits: two u32 cannot overflow there.
+/// Parameters that passed their check, with their lengths. A contract sees the parameters alone.
+#[derive(Clone, Copy)]
+pub struct Checked {
+    pub params: Params,
+    pub sizes: Sizes,
+}
+
+impl Model for Checked {
+    ghost use Rattle.std.specs.Prelude.{◌≡◌};
+    ghost use Rattle.std.proofs.Common.{ap, sym};
+    ghost use Rattle.params.specs.declared.Params.{Params};
+    ghost use Rattle.params.specs.Ranges.{InRange};
+    ghost use Rattle.params.specs.Sizes.{sizes_in};
+
+    ghost Value = { Params };
+
+    ghost view = { λ c. c.params };
+
+    ghost invariant = { λ c. InRange c.params × (c.sizes ≡ sizes_in c.params) };
+
+    // The lengths come back from the parameters, so a copy is the value itself.
+    ghost inverse = { λ p. record { params = p; sizes = sizes_in p } };
+
+    ghost inverse_ok = { λ c h. ap (λ s. record { params = c.params; sizes = s }) (sym h.1) };
+}
+
+// 1 where a number is outside its range, else 0.
 pub fn number(p: Params) -> u32
     ensures { result ≡ params_number p }
 {
-    if p.n < 1 {
-        return 1;
-    }
-    if 1100 < p.n {
-        return 1;
-    }
-    if p.nbit < 1 {
-        return 1;
-    }
-    if 10 < p.nbit {
-        return 1;
-    }
-    if p.bgbit < 1 {
-        return 1;
-    }
-    if 24 < p.bgbit {
-        return 1;
-    }
-    if p.l < 1 {
-        return 1;
-    }
-    if 32 < (p.l as u64) * (p.bgbit as u64) {
-        return 1;
-    }
-    switching_number(p)
-}
-
-// The same of the last two numbers.
-fn switching_number(p: Params) -> u32
-    ensures { result ≡ switching_number p }
-{
-    if p.basebit < 1 {
-        return 1;
-    }
-    if 6 < p.basebit {
-        return 1;
-    }
-    if p.t < 1 {
-        return 1;
-    }
-    if 30 < (p.basebit as u64) * (p.t as u64) {
-        return 1;
-    }
-    0
+    if fits(p) { 0 } else { 1 }
 }
 
 // Refusal 1, or done.
-pub fn check(p: Params) -> Answer
+pub fn check_answer(p: Params) -> Answer
     ensures { result ≡ answer (params_number p) }
 {
     Answer {
@@ -108,40 +98,11 @@ pub fn check(p: Params) -> Answer
     }
 }
 
-// The lengths, the parameters being in range.
-fn sizes_in(p: Params) -> Sizes
-    requires { InRange p }
-    ensures { result ≡ sizes_in p }
-{
-    let n = p.n as usize;
-    let size = ring::power(p.nbit) as usize;
-    let base = ring::power(p.basebit) as usize;
-    let fields = size * (p.t as usize);
-    let rows = (p.l as usize) + (p.l as usize);
-    let bit = rows * (size + size);
-    let bitmasks = rows * size;
-    let switching = fields * (base - 1);
-    Sizes {
-        number: 0,
-        n,
-        size,
-        level0: n + 1,
-        level1: size + 1,
-        ksk: switching * (n + 1),
-        kskmasks: switching * n,
-        ksknoise: switching,
-        bit,
-        bsk: n * bit,
-        bitmasks,
-        bskmasks: n * bitmasks,
-    }
-}
-
 // The refusal and every length.
 pub fn sizes_of(p: Params) -> Sizes
     ensures { result ≡ sizes_of p }
 {
-    if number(p) != 0 {
+    if !fits(p) {
         return Sizes {
             number: 1,
             n: 0,

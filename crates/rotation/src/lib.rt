@@ -127,7 +127,7 @@ fn body_steps(p: Params, b: u32) -> u32
 pub fn mask_amount(p: Params, x: Torus) -> Rounded
     ensures { result ≡ rounded_to p (mask_amount p x.0) }
 {
-    let answer = params::check(p);
+    let answer = params::check_answer(p);
     if answer.number != 0 {
         return Rounded {
             answer,
@@ -144,7 +144,7 @@ pub fn mask_amount(p: Params, x: Torus) -> Rounded
 pub fn body_amount(p: Params, b: Torus) -> Rounded
     ensures { result ≡ rounded_to p (body_amount p b.0) }
 {
-    let answer = params::check(p);
+    let answer = params::check_answer(p);
     if answer.number != 0 {
         return Rounded {
             answer,

@@ -20,14 +20,14 @@ number e = ap (λ (a : Answer). a.number) e
 pub returns-then-answer-ne0 : goal.returns-then-answer-ne0
 unfolding offset_out
 returns-then-answer-ne0 c =
-    let e = c.check-answer.ensures in
+    let e = c.check_answer-answer.ensures in
     ap₂ both e (kept _ _ _ (λ z. c.if-answer-ne0.true (number e ∙ z)))
 
 pub offset_by_rule-requires : goal.offset_by_rule-requires
-offset_by_rule-requires c = in_range _ (sym (number c.check-answer.ensures) ∙ c.if-answer-ne0.false)
+offset_by_rule-requires c = in_range _ (sym (number c.check_answer-answer.ensures) ∙ c.if-answer-ne0.false)
 
 pub returns : goal.returns
 unfolding offset_out
 returns c =
-    let e = c.check-answer.ensures in
+    let e = c.check_answer-answer.ensures in
     ap₂ both e (done _ _ _ (sym (number e) ∙ c.if-answer-ne0.false) c.offset_by_rule.ensures)

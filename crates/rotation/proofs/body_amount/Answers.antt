@@ -7,10 +7,10 @@ use Rattle.rotation.proofs.Amounts.{rounded_refused, rounded_made}
 use Rattle.rotation.proofs.body_amount.Goals as goal
 
 pub returns-then-answer-ne0 : goal.returns-then-answer-ne0
-returns-then-answer-ne0 c = rounded_refused _ _ c.check-answer.ensures c.if-answer-ne0.true
+returns-then-answer-ne0 c = rounded_refused _ _ c.check_answer-answer.ensures c.if-answer-ne0.true
 
 pub body_steps-requires : goal.body_steps-requires
-body_steps-requires c = in_range _ (sym (ap (λ (a : Answer). a.number) c.check-answer.ensures) ∙ c.if-answer-ne0.false)
+body_steps-requires c = in_range _ (sym (ap (λ (a : Answer). a.number) c.check_answer-answer.ensures) ∙ c.if-answer-ne0.false)
 
 pub returns : goal.returns
-returns c = rounded_made _ _ c.check-answer.ensures c.if-answer-ne0.false c.body_steps.ensures
+returns c = rounded_made _ _ c.check_answer-answer.ensures c.if-answer-ne0.false c.body_steps.ensures

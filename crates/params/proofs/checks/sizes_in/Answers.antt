@@ -1,11 +1,11 @@
--- `params::sizes_in` meets its contract: no product passes 2^64, by the bounds of `proofs/Ranges.antt`.
+-- `params::checks::sizes_in` meets its contract: no product passes 2^64, by the bounds of `proofs/Ranges.antt`.
 -- Assumes nothing.
 use mathlib.Core.Path.{◌∙◌}
 use native.Mathlib.Omega.{arith}
 use Rattle.ring.specs.Word.{Q}
 use Rattle.ring.proofs.Words.{power_below}
 use Rattle.params.proofs.Ranges.{Small, small, size_to, base_to, base_from, l_to, t_to}
-use Rattle.params.proofs.sizes_in.Goals as goal
+use Rattle.params.proofs.checks.sizes_in.Goals as goal
 
 pub overflow_sub-switching : goal.overflow_sub-switching
 unfolding Q
