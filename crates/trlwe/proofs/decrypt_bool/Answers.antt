@@ -1,13 +1,12 @@
--- `trlwe::decrypt_bool` meets its contract: where the number is 0 the lengths are right, and where not nothing is called.
+-- `trlwe::decrypt_bool` meets its contract: the scratch has room for N words.
 -- Assumes nothing.
-use mathlib.Core.Path.{◌≡◌, sym, ◌∙◌}
-use lib.ListN.{length}
-use Rattle.trlwe.proofs.Checks.{DecryptGood, decrypt_good}
+use Rattle.std.proofs.Common.{arith, rules, sym, ◌∙◌}
+use Rattle.params.proofs.Ranges.{size_to}
+use Rattle.words.proofs.Scratch.{scratch}
 use Rattle.trlwe.proofs.decrypt_bool.Goals as goal
 
-pub open_into-requires : goal.open_into-requires
-open_into-requires c =
-    let good : c.decrypt_number-number.result ≡ 0 → let g = c.args in DecryptGood g.p (length g.a.now) (length g.b.now) g.key.now (length g.out.now) =
-    λ e. decrypt_good _ _ _ _ _ (sym c.decrypt_number-number.ensures ∙ e)
-    in
-    let w = good c.if-number-eq0.true in (w.range, w.mask, w.body, w.keys, w.into)
+pub slice_bounds-open_on-end : goal.slice_bounds-open_on-end
+slice_bounds-open_on-end c = sym (scratch 1024 _ (grind (arith, size_to c.p.inside.params c.p.invariant.0)))
+
+pub open_on-requires-clause-scratch : goal.open_on-requires-clause-scratch
+open_on-requires-clause-scratch c = scratch 1024 _ (grind (arith, size_to c.p.inside.params c.p.invariant.0)) ∙ search rules
