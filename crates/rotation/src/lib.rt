@@ -106,8 +106,8 @@ pub fn body_amount_in(p: Checked, b: Torus) -> Amount
     let half = ring::power(30 - nbit);
     let step = ring::power(31 - nbit) as u64;
     let turn = ring::power(nbit + 1) as u64;
-    let steps = body_sum(b.0, half) / step;
-    Amount((turn - steps) as u32)
+    let k = turn - body_sum(b.0, half) / step;
+    Amount(k as u32)
 }
 
 /// The amount of a mask word: the steps nearest to it, below 2N. Refusal 1.

@@ -6,9 +6,9 @@ use Rattle.ring.specs.Word.{Q}
 use Rattle.rotation.proofs.Amounts.{half_power, step_power, turn_power, body_steps_to}
 use Rattle.rotation.proofs.body_amount_in.Goals as goal
 
-pub overflow_sub-result : goal.overflow_sub-result
+pub overflow_sub-k : goal.overflow_sub-k
 unfolding Q
-overflow_sub-result c =
+overflow_sub-k c =
     let p = c.p.inside.params in
     let r = c.p.invariant.0 in
     let b : c.args.b.0 < Q = search rules in
