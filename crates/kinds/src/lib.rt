@@ -3,6 +3,9 @@
 ghost use Rattle.std.specs.Prelude.{◌≡◌, ◌≤◌};
 ghost use Rattle.kinds.specs.Kinds.{kind_of, bit_meaning};
 
+// The operands that each kind needs.
+const OPERANDS: [usize; 14] = [0, 0, 1, 2, 2, 2, 2, 2, 2, 2, 2, 2, 2, 3];
+
 // The work of each kind: its blind rotations. A mux has two (02, 2026-03).
 const WORK: [u32; 14] = [0, 0, 0, 1, 1, 1, 1, 1, 1, 1, 1, 1, 1, 2];
 
@@ -24,23 +27,14 @@ const TRUTH: [u32; 14] = [
     216, // mux
 ];
 
-// How many operands a gate of this kind needs.
+/// How many operands a gate of this kind needs.
 pub fn operands(kind: usize) -> usize
     ensures { result ≡ (kind_of kind).operands }
 {
-    if kind < 2 {
+    if 13 < kind {
         return 0;
     }
-    if kind < 3 {
-        return 1;
-    }
-    if kind < 13 {
-        return 2;
-    }
-    if kind < 14 {
-        return 3;
-    }
-    0
+    OPERANDS[kind]
 }
 
 // The work of a gate of this kind.
