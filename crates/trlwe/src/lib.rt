@@ -153,7 +153,7 @@ fn open_on(p: Checked, a: &[u32], b: &[u32], key: &[u32], az: &mut [u32], out: &
 }
 
 /// Decryption to N bits, as bytes 0 or 1: `TRLWELv1::decrypt_bool`.
-#[tactic(auto, using(params::proofs::Ranges::size_to, words::proofs::Scratch::scratch), unfolding(crate::specs::Decrypt::decrypt_pair_number))]
+#[tactic(auto, using(params::proofs::Ranges::size_to), unfolding(crate::specs::Decrypt::decrypt_pair_number))]
 pub fn decrypt_bool(
     p: Params,
     a: &[u32],
@@ -171,8 +171,8 @@ pub fn decrypt_bool(
     Refusal::Length.unless(key.len() == n)?;
     Refusal::Length.unless(out.len() == n)?;
     Refusal::KeyWord.unless(tlwe::keys::is_binary(key))?;
-    // of the scratch, which has room for every N, the product takes N words
-    let mut az = [0u32; 1024];
-    open_on(p, a, b, key, &mut az[..n], out);
+    let mut scratch = [0u32; 1024];
+    let (az, _) = scratch.split_at_mut(n);
+    open_on(p, a, b, key, az, out);
     Ok(())
 }
