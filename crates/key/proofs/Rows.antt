@@ -57,11 +57,20 @@ place_small p r i j k hi hj from hk = row_small p i j k hi hj from hk r
 pub record Sized (p : Params) (s : Sizes) : Type 0 where
   pub range : InRange p
   pub masks : s.n ≡ p.n
+  pub poly : s.size ≡ size p
   pub width : s.level0 ≡ p.n + 1
   pub rows : s.ksknoise ≡ switching_rows p
 
 pub sized : {p q : Params} {s : Sizes} → q ≡ p → InRange q × (s ≡ sizes_in q) → Sized p s
-sized e h = record { range = subst InRange e h.0; masks = ap (λ (s : Sizes). s.n) h.1 ∙ ap (λ (p : Params). p.n) e; width = ap (λ (s : Sizes). s.level0) h.1 ∙ ap (λ (p : Params). p.n + 1) e; rows = ap (λ (s : Sizes). s.ksknoise) h.1 ∙ ap switching_rows e }
+sized e h =
+    let s = h.1 in
+    record {
+      range = subst InRange e h.0;
+      masks = ap (λ (x : Sizes). x.n) s ∙ ap (λ (x : Params). x.n) e;
+      poly = ap (λ (x : Sizes). x.size) s ∙ ap size e;
+      width = ap (λ (x : Sizes). x.level0) s ∙ ap (λ (x : Params). x.n + 1) e;
+      rows = ap (λ (x : Sizes). x.ksknoise) s ∙ ap switching_rows e;
+    }
 
 -- a loop that writes rows of w words, one more of them
 pub one_more : (m : ℕ) (f : ℕ → List ℕ) (o : List ℕ) (r : ℕ) {w : ℕ} {out row : List ℕ} → w ≡ m → (length (joined r f) ≡ r * m) × (out ≡ joined r f ++ drop (r * m) o) → row ≡ f r → length (f r) ≡ m
