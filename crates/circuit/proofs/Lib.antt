@@ -1,5 +1,6 @@
 pub mod Fits
 pub mod Steps
+pub mod Outcomes
 pub mod Accept
 pub mod Wires
 pub mod Laws

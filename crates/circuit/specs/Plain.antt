@@ -1,10 +1,10 @@
 -- The plain meaning of a circuit and its work (01, 'Circuits'; 02, 2026-03).
-use Rattle.std.specs.Prelude.{List, [], ◌∷◌, ◌++◌, ℕ, zero, suc, eqb, length}
+use Rattle.std.specs.Prelude.{Result, List, [], ◌∷◌, ◌++◌, ℕ, zero, suc, eqb, length}
 use Rattle.ring.specs.Word.{at}
 use Rattle.ring.specs.Sums.{sum_to, tab}
 use Rattle.params.specs.declared.Answer.{Answer}
-use Rattle.params.specs.Refusal.{if_done, check, answer}
-use Rattle.circuit.specs.declared.Worked.{Worked}
+use Rattle.params.specs.declared.refusal.Refusal.{Refusal}
+use Rattle.params.specs.Refusal.{if_done, check, answer, given}
 use Rattle.kinds.specs.Kinds.{kind_of, bit_meaning}
 use Rattle.circuit.specs.Form.{inputs, gates, outputs, kind_at, operand_at, output_at, answer_of, or_else}
 use Rattle.ring.specs.Bit.{bit_number, truth}
@@ -44,10 +44,6 @@ run_out bs ins out = if_done (run_answer bs (length ins) (length out)).number (o
 unfoldable pub work_of : List ℕ → ℕ
 work_of bs = sum_to (gates bs) (λ g. (kind_of (kind_at bs g)).work)
 
--- An answer and a value beside it.
-abbrev pub worked : Answer → ℕ → Worked
-worked a v = record { answer = a; value = v }
-
--- The answer and the work; 0 where refused.
-unfoldable pub work_answer : List ℕ → Worked
-work_answer bs = worked (answer_of bs) (if_done (answer_of bs).number (work_of bs) 0)
+-- What asking for the work hands back: the circuit's refusal, or its work.
+abbrev pub work_answer : List ℕ → Result ℕ Refusal
+work_answer bs = given (answer_of bs) (work_of bs)

@@ -22,7 +22,3 @@ counts_answer bs = first_at (drop 5 (head_fields bs))
 -- The answer to gate g.
 abbrev pub gate_answer : List ℕ → ℕ → Answer
 gate_answer bs g = first_at (gate_fields bs g)
-
--- The operands of gate g alone: the gate's checks from the third on.
-unfoldable pub operands_answer : List ℕ → ℕ → Answer
-operands_answer bs g = first_at (drop 2 (gate_fields bs g))

@@ -5,24 +5,19 @@ ghost use Rattle.circuit.specs.Form.{field_at, gates, outputs, kind_at, operand_
 
 use crate::Shape;
 
-fn wide(x: u8) -> usize
-    ensures { result ≡ x }
-{
-    x as usize
-}
-
 // The byte at place i.
 pub(crate) fn byte(bytes: &[u8], i: usize) -> usize
     ensures value { result ≡ at bytes.now i }
     ensures upper_bound { result < 256 }
 {
-    if i < bytes.len() {
-        return wide(bytes[i]);
+    match bytes.get(i) {
+        Some(byte) => usize::from(*byte),
+        None => 0,
     }
-    0
 }
 
 // The 16-bit field at place i, low byte first.
+#[tactic(auto, unfolding(crate::specs::Form::field_at))]
 pub(crate) fn field(bytes: &[u8], i: usize) -> usize
     requires { i < 4294967296 }
     ensures value { result ≡ field_at bytes.now i }
@@ -39,10 +34,11 @@ pub(crate) fn byte_there(bytes: &[u8], i: usize) -> usize
     ensures value { result ≡ at bytes.now i }
     ensures upper_bound { result < 256 }
 {
-    wide(bytes[i])
+    usize::from(bytes[i])
 }
 
 // The 16-bit field at place i, which there is: reading a gate takes no test of its length.
+#[tactic(auto, unfolding(crate::specs::Form::field_at))]
 pub(crate) fn field_there(bytes: &[u8], i: usize) -> usize
     requires { i + 1 < length bytes.now }
     ensures value { result ≡ field_at bytes.now i }
@@ -53,51 +49,48 @@ pub(crate) fn field_there(bytes: &[u8], i: usize) -> usize
     low + 256 * high
 }
 
-// The version and the counts.
+/// The version and the counts.
+#[tactic(auto, unfolding(crate::specs::Form::counts_of))]
 pub fn counts(bytes: &[u8]) -> Shape
     ensures { result ≡ counts_of bytes.now }
 {
-    let version = field(bytes, 3);
-    let inputs = field(bytes, 5);
-    let gates = field(bytes, 7);
-    let outputs = field(bytes, 9);
     Shape {
-        version,
-        inputs,
-        gates,
-        outputs,
+        version: field(bytes, 3),
+        inputs: field(bytes, 5),
+        gates: field(bytes, 7),
+        outputs: field(bytes, 9),
     }
 }
 
-// The number of gate g's kind; 0 where there is no gate g.
+/// The number of gate g's kind; 0 where there is no gate g.
 pub fn kind_at(bytes: &[u8], g: usize) -> usize
     ensures { result ≡ cond (ltb g (gates bytes.now)) (kind_at bytes.now g) 0 }
 {
     if g < field(bytes, 7) {
-        return byte(bytes, 11 + 8 * g);
+        byte(bytes, 11 + 8 * g)
+    } else {
+        0
     }
-    0
 }
 
-// Operand x of gate g; 0 where there is no gate g or no operand x.
+/// Operand x of gate g; 0 where there is no gate g or no operand x.
 pub fn operand_at(bytes: &[u8], g: usize, x: usize) -> usize
     ensures { result ≡ cond (ltb g (gates bytes.now)) (cond (ltb x 3) (operand_at bytes.now g x) 0) 0 }
 {
-    if g < field(bytes, 7) {
-        if x < 3 {
-            return field(bytes, 11 + 8 * g + 2 + 2 * x);
-        }
-        return 0;
+    if g < field(bytes, 7) && x < 3 {
+        field(bytes, 11 + 8 * g + 2 + 2 * x)
+    } else {
+        0
     }
-    0
 }
 
-// The wire of output o; 0 where there is no output o.
+/// The wire of output o; 0 where there is no output o.
 pub fn output_at(bytes: &[u8], o: usize) -> usize
     ensures { result ≡ cond (ltb o (outputs bytes.now)) (output_at bytes.now o) 0 }
 {
     if o < field(bytes, 9) {
-        return field(bytes, 11 + 8 * field(bytes, 7) + 2 * o);
+        field(bytes, 11 + 8 * field(bytes, 7) + 2 * o)
+    } else {
+        0
     }
-    0
 }

@@ -1,261 +1,111 @@
 // Reading a circuit: the answer to its bytes.
-ghost use Rattle.std.specs.Prelude.{◌≡◌, ◌+◌, ◌*◌, ◌≤◌, ◌<◌, ltb, eqb, length, cond};
-ghost use Rattle.circuit.specs.Form.{inputs, gates, outputs, kind_at, output_answer, first, answer_of};
-ghost use Rattle.circuit.specs.Private.{counts_answer, gate_answer, head_answer, operands_answer};
+ghost use Rattle.std.specs.Prelude.{◌≡◌, ◌+◌, ◌*◌, ◌≤◌, ◌<◌, ltb, length};
+ghost use Rattle.kinds.specs.Kinds.{kind_of};
+ghost use Rattle.params.specs.Refusal.{outcome, unless, done};
+ghost use Rattle.params.specs.declared.refusal.Refusal.TheVariants.{Gate};
+ghost use Rattle.circuit.specs.Form.{inputs, gates, outputs, gate_place, kind_at, operand_good, output_answer, first, answer_of};
+ghost use Rattle.circuit.specs.Private.{counts_answer, gate_answer, head_answer};
 ghost use Rattle.circuit.specs.Valid.{Head};
 
 use crate::fields::{byte_there, field, field_there};
-use kinds::operands;
-use params::Answer;
+use params::Refusal;
 
 // The counts in order, then the length.
-fn counts(bytes: &[u8]) -> Answer
-    ensures { result ≡ counts_answer bytes.now }
+#[tactic(auto, unfolding(crate::specs::Form::head_fields, crate::specs::Private::counts_answer))]
+fn counts(bytes: &[u8]) -> Result<(), Refusal>
+    ensures { result ≡ outcome (counts_answer bytes.now) }
 {
-    let i = field(bytes, 5);
-    let g = field(bytes, 7);
-    let o = field(bytes, 9);
-    let whole = 11 + 8 * g + 2 * o;
-    if 256 < i {
-        return Answer {
-            number: 8,
-            place: 5,
-        };
-    }
-    if 1024 < g {
-        return Answer {
-            number: 8,
-            place: 7,
-        };
-    }
-    if o < 1 {
-        return Answer {
-            number: 8,
-            place: 9,
-        };
-    }
-    if 64 < o {
-        return Answer {
-            number: 8,
-            place: 9,
-        };
-    }
-    if bytes.len() != whole {
-        return Answer {
-            number: 8,
-            place: 11,
-        };
-    }
-    Answer {
-        number: 0,
-        place: 0,
-    }
+    let inputs = field(bytes, 5);
+    let gates = field(bytes, 7);
+    let outputs = field(bytes, 9);
+    Refusal::Count(5).unless(inputs <= 256)?;
+    Refusal::Count(7).unless(gates <= 1024)?;
+    Refusal::Count(9).unless(1 <= outputs)?;
+    Refusal::Count(9).unless(outputs <= 64)?;
+    Refusal::Count(11).unless(bytes.len() == 11 + 8 * gates + 2 * outputs)
 }
 
 // The shortest length, the mark, the version, and the counts.
-fn head(bytes: &[u8]) -> Answer
-    ensures { result ≡ head_answer bytes.now }
+#[tactic(auto, unfolding(crate::specs::Form::head_fields, crate::specs::Private::counts_answer))]
+fn head(bytes: &[u8]) -> Result<(), Refusal>
+    ensures { result ≡ outcome (head_answer bytes.now) }
 {
-    if bytes.len() < 11 {
-        return Answer {
-            number: 8,
-            place: 0,
-        };
-    }
-    if bytes[0] != 69 {
-        return Answer {
-            number: 6,
-            place: 0,
-        };
-    }
-    if bytes[1] != 71 {
-        return Answer {
-            number: 6,
-            place: 0,
-        };
-    }
-    if bytes[2] != 76 {
-        return Answer {
-            number: 6,
-            place: 0,
-        };
-    }
-    let version = field(bytes, 3);
-    if version != 1 {
-        return Answer {
-            number: 7,
-            place: 3,
-        };
-    }
+    Refusal::Count(0).unless(11 <= bytes.len())?;
+    Refusal::Mark.unless(bytes[0] == b'E')?;
+    Refusal::Mark.unless(bytes[1] == b'G')?;
+    Refusal::Mark.unless(bytes[2] == b'L')?;
+    Refusal::Version.unless(field(bytes, 3) == 1)?;
     counts(bytes)
 }
 
-// Operand x of a gate, being this wire: one that the kind needs is below the gate's own wire, another is 0.
-fn operand_good(needed: usize, own: usize, x: usize, wire: usize) -> bool
-    ensures { result ≡ cond (ltb x needed) (ltb wire own) (eqb wire 0) }
+// Operand x of gate g: one that its kind needs is below the gate's own wire, inputs + g, another is 0, and so below 1.
+#[tactic(auto, using(crate::proofs::Fits::below), unfolding(crate::specs::Form::operand_good))]
+fn operand(bytes: &[u8], g: usize, own: usize, needed: bool, x: usize) -> Result<(), Refusal>
+    requires there { (g < 65536) × (x < 3) × (19 + 8 * g ≤ length bytes.now) }
+    requires read { (own ≡ inputs bytes.now + g) × (needed ≡ ltb x (kind_of (kind_at bytes.now g)).operands) }
+    ensures { result ≡ unless (operand_good bytes.now g x) (Gate (gate_place g + (2 + 2 * x))) done }
 {
-    if x < needed {
-        return wire < own;
-    }
-    wire == 0
+    let at = 11 + 8 * g + (2 + 2 * x);
+    let bound = if needed { own } else { 1 };
+    Refusal::Gate(at as u32).unless(field_there(bytes, at) < bound)
 }
 
-// The operands of gate g, in order.
-fn gate_operands(bytes: &[u8], g: usize, own: usize, kind: usize) -> Answer
-    requires { (g < 65536) × (19 + 8 * g ≤ length bytes.now) × (own ≡ inputs bytes.now + g) × (kind ≡ kind_at bytes.now g) }
-    ensures { result ≡ operands_answer bytes.now g }
-{
-    let at = 11 + 8 * g;
-    let place = at as u32;
-    let needed = operands(kind);
-    if !operand_good(needed, own, 0, field_there(bytes, at + 2)) {
-        return Answer {
-            number: 9,
-            place: place + 2,
-        };
-    }
-    if !operand_good(needed, own, 1, field_there(bytes, at + 4)) {
-        return Answer {
-            number: 9,
-            place: place + 4,
-        };
-    }
-    if !operand_good(needed, own, 2, field_there(bytes, at + 6)) {
-        return Answer {
-            number: 9,
-            place: place + 6,
-        };
-    }
-    Answer {
-        number: 0,
-        place: 0,
-    }
-}
-
-// Gate g, field by field; its own wire is inputs + g.
-fn gate(bytes: &[u8], g: usize, own: usize) -> Answer
+// Gate g, field by field; its own wire is inputs + g. Kinds from 2 on need one operand, from 3 on two, 13 three. That is tested by comparisons and not read from the
+// table of kinds, since so each bound is selected without a jump: with the table reading takes over 1.2 times plain Rust.
+#[tactic(auto, using(crate::proofs::Fits::first_needed, crate::proofs::Fits::second_needed, crate::proofs::Fits::third_needed), unfolding(crate::specs::Form::gate_fields))]
+fn gate(bytes: &[u8], g: usize, own: usize) -> Result<(), Refusal>
     requires { (g < 65536) × (19 + 8 * g ≤ length bytes.now) × (own ≡ inputs bytes.now + g) }
-    ensures { result ≡ gate_answer bytes.now g }
+    ensures { result ≡ outcome (gate_answer bytes.now g) }
 {
     let at = 11 + 8 * g;
     let place = at as u32;
     let kind = byte_there(bytes, at);
-    if 13 < kind {
-        return Answer { number: 9, place };
-    }
-    let zero = byte_there(bytes, at + 1);
-    if zero != 0 {
-        return Answer {
-            number: 9,
-            place: place + 1,
-        };
-    }
-    gate_operands(bytes, g, own, kind)
-}
-
-// What an operand has to be below: the gate's own wire where its kind needs it, else 1.
-fn operand_bound(needed: bool, own: usize) -> usize
-    ensures { result ≡ cond needed own 1 }
-{
-    if needed { own } else { 1 }
-}
-
-// Whether gate g is not refused: what reading asks of each gate, by the same tests for every kind. Kinds from 2 on need one operand, from 3 on two, 13 three.
-fn gate_fits(bytes: &[u8], g: usize, own: usize) -> bool
-    requires { (g < 65536) × (19 + 8 * g ≤ length bytes.now) × (own ≡ inputs bytes.now + g) }
-    ensures { result ≡ eqb (gate_answer bytes.now g).number 0 }
-{
-    let at = 11 + 8 * g;
-    let kind = byte_there(bytes, at);
-    if 13 < kind {
-        return false;
-    }
-    let blank = byte_there(bytes, at + 1);
-    if blank != 0 {
-        return false;
-    }
-    let x = field_there(bytes, at + 2);
-    if x >= operand_bound(1 < kind, own) {
-        return false;
-    }
-    let y = field_there(bytes, at + 4);
-    if y >= operand_bound(2 < kind, own) {
-        return false;
-    }
-    let z = field_there(bytes, at + 6);
-    z < operand_bound(12 < kind, own)
+    Refusal::Gate(place).unless(kind <= 13)?;
+    Refusal::Gate(place + 1).unless(byte_there(bytes, at + 1) == 0)?;
+    operand(bytes, g, own, 1 < kind, 0)?;
+    operand(bytes, g, own, 2 < kind, 1)?;
+    operand(bytes, g, own, 12 < kind, 2)
 }
 
 // Output o.
-fn output(bytes: &[u8], o: usize) -> Answer
+#[tactic(auto, unfolding(crate::specs::Form::output_answer))]
+fn output(bytes: &[u8], o: usize) -> Result<(), Refusal>
     requires { o < 65536 }
-    ensures { result ≡ output_answer bytes.now o }
+    ensures { result ≡ outcome (output_answer bytes.now o) }
 {
     let gates = field(bytes, 7);
     let at = 11 + 8 * gates + 2 * o;
-    let wires = field(bytes, 5) + gates;
-    let wire = field(bytes, at);
-    if wire < wires {
-        return Answer {
-            number: 0,
-            place: 0,
-        };
-    }
-    let place = at as u32;
-    Answer { number: 10, place }
+    Refusal::Output(at as u32).unless(field(bytes, at) < field(bytes, 5) + gates)
 }
 
 // The first gate that is refused.
-fn all_gates(bytes: &[u8]) -> Answer
+fn all_gates(bytes: &[u8]) -> Result<(), Refusal>
     requires { Head bytes.now }
-    ensures { result ≡ first (gate_answer bytes.now) 0 (gates bytes.now) }
+    ensures { result ≡ outcome (first (gate_answer bytes.now) 0 (gates bytes.now)) }
 {
     let inputs = field(bytes, 5);
-    let n = field(bytes, 7);
-    let mut g = 0;
-    while g < n {
-        let own = inputs + g;
-        if !gate_fits(bytes, g, own) {
-            return gate(bytes, g, own);
-        }
-        g += 1;
+    for g in 0..field(bytes, 7) {
+        gate(bytes, g, inputs + g)?;
     }
-    Answer {
-        number: 0,
-        place: 0,
-    }
+    Ok(())
 }
 
 // The first output that is refused.
-fn all_outputs(bytes: &[u8]) -> Answer
-    ensures { result ≡ first (output_answer bytes.now) 0 (outputs bytes.now) }
+fn all_outputs(bytes: &[u8]) -> Result<(), Refusal>
+    ensures { result ≡ outcome (first (output_answer bytes.now) 0 (outputs bytes.now)) }
 {
-    let n = field(bytes, 9);
-    let mut o = 0;
-    while o < n {
-        let a = output(bytes, o);
-        if a.number != 0 {
-            return a;
-        }
-        o += 1;
+    for o in 0..field(bytes, 9) {
+        output(bytes, o)?;
     }
-    Answer {
-        number: 0,
-        place: 0,
-    }
+    Ok(())
 }
 
-// The answer to a circuit's bytes: 6 to 10 with the place of the first field at fault, or done.
-pub fn check(bytes: &[u8]) -> Answer
-    ensures { result ≡ answer_of bytes.now }
+/// Reads a circuit: refusals 6 to 10 with the place of the first field at fault, or done.
+#[tactic(auto, using(crate::proofs::Outcomes::outcome_or), unfolding(crate::specs::Form::answer_of))]
+pub fn check(bytes: &[u8]) -> Result<(), Refusal>
+    ensures { result ≡ outcome (answer_of bytes.now) }
 {
-    let a = head(bytes);
-    if a.number != 0 {
-        return a;
-    }
-    let b = all_gates(bytes);
-    if b.number != 0 {
-        return b;
-    }
+    head(bytes)?;
+    all_gates(bytes)?;
     all_outputs(bytes)
 }

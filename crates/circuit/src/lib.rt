@@ -12,14 +12,7 @@ pub use form::check;
 pub use plain::run_plain;
 pub use words::tell;
 
-// The answer, and the work of the circuit, 0 where refused.
-#[derive(Clone, Copy)]
-pub struct Worked {
-    pub answer: params::Answer,
-    pub value: u32,
-}
-
-// What the head of a circuit's bytes holds after the mark.
+/// What the head of a circuit's bytes holds after the mark.
 #[derive(Clone, Copy)]
 pub struct Shape {
     pub version: usize,

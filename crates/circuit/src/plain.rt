@@ -2,6 +2,7 @@
 ghost use Rattle.std.specs.Prelude.{◌≡◌, ◌++◌, ◌+◌, ◌≤◌, ◌<◌, length, take, drop, set};
 ghost use Rattle.ring.specs.Word.{at};
 ghost use Rattle.ring.specs.Sums.{tab};
+ghost use Rattle.params.specs.Refusal.{outcome};
 ghost use Rattle.circuit.specs.Form.{inputs, gates, outputs, wires, output_at};
 ghost use Rattle.circuit.specs.Plain.{gate_bit, wires_to, output_bits, run_answer, run_out};
 ghost use Rattle.ring.specs.Bit.{truth, bit_number};
@@ -9,17 +10,14 @@ ghost use Rattle.ring.specs.Bit.{truth, bit_number};
 use crate::fields::{byte, field};
 use crate::form::check;
 use kinds::meaning;
-use params::Answer;
+use params::Refusal;
 
 // The bit of wire w among the first of the wires; 0 for any other.
 fn wire(bits: &[u8], first: usize, w: usize) -> u8
     requires { first ≤ length bits.now }
     ensures { result ≡ at (take first bits.now) w }
 {
-    if w < first {
-        return bits[w];
-    }
-    0
+    if w < first { bits[w] } else { 0 }
 }
 
 // The bit of gate g, the first wires' bits being there.
@@ -35,14 +33,13 @@ fn gate_bit(bytes: &[u8], g: usize, bits: &[u8], first: usize) -> u8
 }
 
 // The inputs' bits, as the first wires.
+#[tactic(auto, using(ring::proofs::Tab::tab_none, ring::proofs::Tab::tab_more, kinds::proofs::Columns::bit_byte))]
 fn put_inputs(ins: &[u8], bits: &mut [u8])
     requires { length ins.now ≤ length bits.old }
     ensures { bits.new ≡ tab (length ins.now) (λ i. bit_number (truth (at ins.now i))) ++ drop (length ins.now) bits.old }
 {
-    let mut i = 0;
-    while i < ins.len() {
-        bits[i] = (ins[i] != 0) as u8;
-        i += 1;
+    for (i, x) in ins.iter().enumerate() {
+        bits[i] = (*x != 0) as u8;
     }
 }
 
@@ -52,16 +49,14 @@ fn put_gates(bytes: &[u8], bits: &mut [u8])
     ensures { bits.new ≡ wires_to bytes.now (take (inputs bytes.now) bits.old) (gates bytes.now) ++ drop (wires bytes.now) bits.old }
 {
     let first = field(bytes, 5);
-    let n = field(bytes, 7);
-    let mut g = 0;
-    while g < n {
+    for g in 0..field(bytes, 7) {
         let own = first + g;
         bits[own] = gate_bit(bytes, g, bits, own);
-        g += 1;
     }
 }
 
 // The outputs' bits, from the wires'.
+#[tactic(auto, using(ring::proofs::Tab::tab_none, ring::proofs::Tab::tab_more))]
 fn put_outputs(bytes: &[u8], bits: &[u8], out: &mut [u8])
     requires bytes_in_bounds { wires bytes.now ≤ length bits.now }
     requires out_len { length out.old ≡ outputs bytes.now }
@@ -69,11 +64,8 @@ fn put_outputs(bytes: &[u8], bits: &[u8], out: &mut [u8])
 {
     let gates = field(bytes, 7);
     let first = field(bytes, 5) + gates;
-    let n = field(bytes, 9);
-    let mut o = 0;
-    while o < n {
+    for o in 0..field(bytes, 9) {
         out[o] = wire(bits, first, field(bytes, 11 + 8 * gates + 2 * o));
-        o += 1;
     }
 }
 
@@ -89,42 +81,15 @@ pub(crate) fn run_into(bytes: &[u8], ins: &[u8], out: &mut [u8])
     put_outputs(bytes, &bits, out);
 }
 
-// The answer of a run: the circuit's, then 2 for the lengths.
-fn run_answer(bytes: &[u8], ins: usize, outs: usize) -> Answer
-    ensures { result ≡ run_answer bytes.now ins outs }
-{
-    let answer = check(bytes);
-    if answer.number != 0 {
-        return answer;
-    }
-    let n = field(bytes, 5);
-    if ins != n {
-        return Answer {
-            number: 2,
-            place: 0,
-        };
-    }
-    let m = field(bytes, 9);
-    if outs != m {
-        return Answer {
-            number: 2,
-            place: 0,
-        };
-    }
-    Answer {
-        number: 0,
-        place: 0,
-    }
-}
-
-// The circuit's outputs on the bits of its inputs.
-pub fn run_plain(bytes: &[u8], ins: &[u8], out: &mut [u8]) -> Answer
-    ensures said { result ≡ run_answer bytes.now (length ins.now) (length out.old) }
+#[tactic(auto, using(crate::proofs::Accept::accepted), unfolding(crate::specs::Plain::run_answer, crate::specs::Plain::run_out))]
+/// The circuit's outputs on the bits of its inputs. Refusals: 6 to 10, then 2 for the lengths.
+pub fn run_plain(bytes: &[u8], ins: &[u8], out: &mut [u8]) -> Result<(), Refusal>
+    ensures said { result ≡ outcome (run_answer bytes.now (length ins.now) (length out.old)) }
     ensures written { out.new ≡ run_out bytes.now ins.now out.old }
 {
-    let answer = run_answer(bytes, ins.len(), out.len());
-    if answer.number == 0 {
-        run_into(bytes, ins, out);
-    }
-    answer
+    check(bytes)?;
+    Refusal::Length.unless(ins.len() == field(bytes, 5))?;
+    Refusal::Length.unless(out.len() == field(bytes, 9))?;
+    run_into(bytes, ins, out);
+    Ok(())
 }

@@ -3,64 +3,42 @@
 ghost use Rattle.std.specs.Prelude.{◌≡◌, ◌≤◌};
 ghost use Rattle.kinds.specs.Kinds.{kind_of, bit_meaning};
 
-// The work of each kind: its blind rotations. A mux has two (02, 2026-03).
-const WORK: [u32; 14] = [0, 0, 0, 1, 1, 1, 1, 1, 1, 1, 1, 1, 1, 2];
+mod kind;
 
-// The truth table of each kind: bit a + 2b + 4c is the bit for operands a, b and c.
-const TRUTH: [u32; 14] = [
-    0, // false
-    255, // true
-    85, // not
-    136, // and
-    238, // or
-    119, // nand
-    17, // nor
-    102, // xor
-    153, // xnor
-    68, // and_ny
-    34, // and_yn
-    221, // or_ny
-    187, // or_yn
-    216, // mux
-];
+pub use kind::{Kind, NoKind};
 
-// How many operands a gate of this kind needs.
+// The three functions on numbers are total, since other crates and C hand them any number: one that no kind has stands for the first.
+
+/// How many operands a gate of the kind of this number needs.
+#[tactic(auto, using(crate::proofs::Columns::kind_past))]
 pub fn operands(kind: usize) -> usize
     ensures { result ≡ (kind_of kind).operands }
 {
-    if kind < 2 {
-        return 0;
+    match Kind::try_from(kind) {
+        Ok(kind) => kind.operands(),
+        Err(_) => 0,
     }
-    if kind < 3 {
-        return 1;
-    }
-    if kind < 13 {
-        return 2;
-    }
-    if kind < 14 {
-        return 3;
-    }
-    0
 }
 
-// The work of a gate of this kind.
+/// The work of a gate of the kind of this number.
+#[tactic(auto, using(crate::proofs::Columns::kind_past))]
 pub fn work_of(kind: usize) -> u32
     ensures value { result ≡ (kind_of kind).work }
     ensures upper_bound { result ≤ 2 }
 {
-    if 13 < kind {
-        return 0;
+    match Kind::try_from(kind) {
+        Ok(kind) => kind.work(),
+        Err(_) => 0,
     }
-    WORK[kind]
 }
 
-// The bit of a gate of this kind on the bits of its operands.
+/// The bit of a gate of the kind of this number on the bits of its operands.
+#[tactic(auto, using(crate::proofs::Columns::meaning_past), unfolding(crate::specs::Kinds::bit_meaning))]
 pub fn meaning(kind: usize, a: u8, b: u8, c: u8) -> u8
     ensures { result ≡ bit_meaning kind a b c }
 {
-    if 13 < kind {
-        return 0;
+    match Kind::try_from(kind) {
+        Ok(kind) => kind.meaning(a != 0, b != 0, c != 0) as u8,
+        Err(_) => 0,
     }
-    let i = ((a != 0) as u32) + 2 * ((b != 0) as u32) + 4 * ((c != 0) as u32);
-    (TRUTH[kind] / ring::power(i) % 2) as u8
 }

@@ -1,18 +1,15 @@
 -- `circuit::plain::put_gates` meets its contract: the loop writes one gate's bit after the other.
 -- Assumes nothing.
-use mathlib.Core.Path.{refl}
 use native.Mathlib.Omega.{arith}
-use lib.ListN.{length-set}
 use Rattle.circuit.proofs.Wires.{run_none, run_more}
 use Rattle.circuit.proofs.plain.put_gates.Goals as goal
 
 pub loop-g-init : goal.loop-g-init
 loop-g-init c =
     let a = c.args in
-    (omega arith, refl, run_none a.bytes.now a.bits.now c.field-first.result (omega arith))
+    run_none a.bytes.now a.bits.now c.field-first.result (omega arith)
 
 pub loop-g-preserved : goal.loop-g-preserved
 loop-g-preserved c =
     let a = c.args in
-    let i = c.loop-g.invariant in
-    (omega arith, simp length-set i.1, run_more a.bytes.now a.bits.now c.field-first.result (omega arith) c.loop-g.g i.2 c.gate_bit.result (omega arith) c.gate_bit.ensures)
+    run_more a.bytes.now a.bits.now c.field-first.result (omega arith) c.loop-g.g c.loop-g.invariant c.gate_bit.result (omega arith) c.gate_bit.ensures
