@@ -15,7 +15,7 @@ use Rattle.params.specs.declared.Params.{Params}
 use Rattle.params.specs.Ranges.{InRange}
 use Rattle.params.specs.Sizes.{size}
 use Rattle.params.proofs.Answers.{when_done}
-use Rattle.params.proofs.Ranges.{in_range, not_refused, size_to}
+use Rattle.params.proofs.Ranges.{in_range, not_refused}
 use Rattle.refusals.proofs.Table.{good, done}
 use Rattle.ring.specs.Word.{Q, at, neg}
 use Rattle.ring.specs.Sums.{sum_to, tab}
@@ -26,7 +26,7 @@ use Rattle.ring.proofs.SumLaws.{sum_back, sum_mod}
 use Rattle.ring.proofs.Words.{mul-mod_r}
 use Rattle.ring.proofs.Value.{by_test}
 use Rattle.product.specs.Product.{product_checks, product_number, poly_mul_out}
-use Rattle.product.specs.Private.{doubled_at, doubled, Passed}
+use Rattle.product.specs.Private.{doubled_at, doubled}
 use Rattle.ring.specs.Private.{acc_to}
 
 -- ---- the refusals
@@ -48,10 +48,6 @@ module _ (p : Params) (la lb lo : ℕ) where
   pub product_passes : InRange p → la ≡ size p → lb ≡ size p → lo ≡ size p → product_number p la lb lo ≡ 0
   unfolding product_number
   product_passes r a b o = done p (product_checks p la lb lo) (not_refused p r, (a, (b, (o, tt))))
-
-  -- and what the routines use of it
-  pub product_passed : InRange p → la ≡ size p → lb ≡ size p → lo ≡ size p → Passed p la lb lo
-  product_passed r a b o = (product_passes r a b o, o, (a ∙ sym o, b ∙ sym o, omega (arith, o, size_to p r)))
 
 -- ---- the rows
 

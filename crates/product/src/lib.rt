@@ -1,20 +1,23 @@
 #![tactic(auto)]
 // The exact product of two polynomials of N words modulo X^N + 1 and 2^32. It stands in for src/fft, whose transform rounds (01, 'What changes shape').
-ghost use Rattle.std.specs.Prelude.{◌≡◌, ◌<◌, suc, ◌+◌, ◌-◌, ◌*◌, length, OnOk};
+ghost use Rattle.std.specs.Prelude.{◌≡◌, ◌≤◌, ◌<◌, suc, ◌+◌, ◌-◌, ◌*◌, length, OnOk};
 ghost use Rattle.params.specs.Refusal.{answer, outcome};
+ghost use Rattle.params.specs.Sizes.{size};
 ghost use Rattle.ring.specs.Word.{at};
 ghost use Rattle.ring.specs.Poly.{plus, times};
 ghost use Rattle.product.specs.Product.{product_number, poly_mul_out, poly_mul_add_out};
-ghost use Rattle.product.specs.Private.{doubled, Alike, Passed};
+ghost use Rattle.product.specs.Private.{doubled, Alike};
 ghost use Rattle.ring.specs.Private.{add_by, acc_to};
 
 use params::{Params, Refusal};
 
 // The refusal of both routines: each slice has N words.
-#[tactic(auto, unfolding(crate::specs::Product::product_number))]
+#[tactic(auto, using(params::proofs::Ranges::size_to), unfolding(crate::specs::Product::product_number))]
 fn check(p: Params, la: usize, lb: usize, lo: usize) -> Result<(), Refusal>
     ensures said { result ≡ outcome (answer (product_number p la lb lo)) }
-    ensures ok { OnOk result (Passed p la lb lo) }
+    ensures passes { OnOk result (product_number p la lb lo ≡ 0) }
+    ensures alike { OnOk result ((la ≡ lo) × (lb ≡ lo) × (lo ≡ size p)) }
+    ensures small { OnOk result (lo ≤ 1024) }
 {
     let n = params::check(p)?.sizes.size;
     Refusal::Length.unless(la == n)?;

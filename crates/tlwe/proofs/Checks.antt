@@ -10,7 +10,7 @@ use borrow.Author.Tests.{le-leb, lt-leb}
 use lib.Bits.{bit_or, or_lt, or_add_and, and_le_l, and_le_r}
 use lib.Dec.{leb, leb→le, nleb→lt}
 use lib.ListN.{length, take}
-use lib.Seq.{take-suc, take_all}
+use lib.Seq.{take-suc}
 use Rattle.ring.specs.Word.{at}
 use Rattle.ring.proofs.Value.{by_test}
 use Rattle.params.specs.declared.Params.{Params}
@@ -67,16 +67,12 @@ or_binary a b = by_test (leb b 1) (λ (c : Bool). leb (bit_or a b) 1 ≡ cond c 
     (λ u. let la : 1 < a = nleb→lt a 1 u in lt-leb (bit_or a b) 1 (omega (arith, or_add_and a b, and_le_r a b))))
     (λ t. let lb : 1 < b = nleb→lt b 1 t in lt-leb (bit_or a b) 1 (omega (arith, or_add_and a b, and_le_l a b)))
 
-pub key_none : (key : List ℕ) → leb 0 1 ≡ binary (take 0 key)
+pub key_none : true ≡ binary []
 unfolding binary
-key_none key = refl
+key_none = refl
 
 pub key_push : (ks : List ℕ) (seen k : ℕ) → leb seen 1 ≡ binary ks → leb (bit_or seen k) 1 ≡ binary (ks ++ (k ∷ []))
 key_push ks seen k e = or_binary seen k ∙ ap (λ (c : Bool). cond (leb k 1) c false) e ∙ sym (binary_snoc ks k)
 
 pub key_more : (key : List ℕ) (i seen : ℕ) → i < length key → leb seen 1 ≡ binary (take i key) → leb (bit_or seen (at key i)) 1 ≡ binary (take (i + 1) key)
 key_more key i seen h e = rw (add-one, take-suc key i 0 h) (key_push (take i key) seen (at key i) e)
-
--- the loop's end: what was seen tells of the whole key
-pub key_done : (key : List ℕ) (i seen : ℕ) → length key ≤ i → leb seen 1 ≡ binary (take i key) → leb seen 1 ≡ binary key
-key_done key i seen h e = e ∙ ap binary (take_all i key h)

@@ -4,7 +4,7 @@
 use mathlib.Core.Path.{◌≡◌, sym, ap, ap₂, ◌∙◌}
 use mathlib.Core.List.{List}
 use Prim.Native.Nat.{ℕ, ◌+◌, ◌-◌, ◌*◌, ◌%◌, ◌^◌, ◌<◌}
-use native.Mathlib.Nat.{add-mod, mod-add-mod, mod-lt}
+use native.Mathlib.Nat.{mod-mod, add-mod, mod-add-mod, mod-lt}
 use native.Mathlib.Omega.{arith}
 use lib.ListN.{length}
 use Rattle.ring.specs.Word.{Q, Q_pos, at, neg}
@@ -12,11 +12,21 @@ use Rattle.ring.specs.Poly.{plus, minus, scale}
 use Rattle.ring.specs.Phase.{inner, phase_of}
 use Rattle.ring.proofs.Places.{at_combined}
 use Rattle.ring.proofs.Extract.{phase_row}
-use Rattle.ring.proofs.SumLaws.{sum_mod, sum_add, sum_mul}
+use Rattle.ring.proofs.SumLaws.{sum_none, sum_step, sum_mod, sum_add, sum_mul}
 use Rattle.ring.proofs.Words.{mul-mod_l, mul-mod_r, neg-mod}
 use Rattle.tlwe.specs.Linear.{negative}
 use Rattle.tlwe.specs.Encrypt.{encrypted}
 use Rattle.tlwe.proofs.Sums.{add_combined, sub_combined, neg_combined, add_mul_combined, sub_mul_combined, less_times}
+
+-- the masks' sum, as the code's loop works it out
+pub inner_none : (key a : List ℕ) → 0 ≡ inner 0 key a % Q
+unfolding inner
+inner_none key a = sum_none _
+
+pub inner_more : (key a : List ℕ) (i : ℕ) {sum term more : ℕ} → sum ≡ inner i key a % Q → term ≡ (at a i * at key i) % Q → more ≡ (sum + term) % Q
+    → more ≡ inner (i + 1) key a % Q
+unfolding inner
+inner_more key a i s t e = sum_step _ i _ s (ap (λ (n : ℕ). n % Q) t ∙ mod-mod _ Q) e
 
 -- the phase, as the code works it out
 pub phase_is : (d : ℕ) (key c : List ℕ) {sum word : ℕ} → sum ≡ inner d key c % Q → word ≡ (at c d + neg sum) % Q → word ≡ phase_of d key c

@@ -24,7 +24,7 @@ pub fn key_number(key: &[u32]) -> Result<(), Refusal>
 }
 
 // The masks' sum under the key, modulo 2^32, of the first words of a, one for each word of the key; in the same loop the key's check.
-#[tactic(auto, using(ring::proofs::SumLaws::sum_done), unfolding(ring::specs::Phase::inner))]
+#[tactic(auto, using(crate::proofs::Phases::inner_none, crate::proofs::Phases::inner_more, crate::proofs::Checks::key_none, crate::proofs::Checks::key_more))]
 pub(crate) fn inner(a: &[u32], key: &[u32]) -> Result<u32, Refusal>
     requires { length key.now ≤ length a.now }
     ensures { result ≡ given (answer (key_number key.now)) (inner (length key.now) key.now a.now % Q) }

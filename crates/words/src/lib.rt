@@ -19,6 +19,7 @@ pub fn combine<F: Fn(u32, u32) -> u32>(f: F, a: &[u32], out: &mut [u32])
 }
 
 /// v at every place.
+#[tactic(auto, using(ring::proofs::Tab::tab_none, ring::proofs::Tab::tab_more))]
 pub fn fill(v: u32, out: &mut [u32])
     ensures { out.new ≡ tab (length out.old) (λ i. v) }
 {
