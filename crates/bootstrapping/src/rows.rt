@@ -47,7 +47,8 @@ fn body_message(p: Checked, m: u32, r: u32) -> u32
     }
 }
 
-// Row r, from its own masks and noise: a is the masks, b is noise and masks·z, and to the first word of either its message is added.
+// Row r, from its own masks and noise: a is the masks, b is noise and masks·z, and to the first word of either its message
+// is added. At these lengths the product refuses nothing.
 fn row_into(p: Checked, m: u32, r: u32, masks: &[u32], noise: &[u32], key: &[u32], out: &mut [u32])
     requires row { r < p.l + p.l }
     requires words { (length masks.now ≡ size p) × (length noise.now ≡ size p) × (length key.now ≡ size p) × (length out.old ≡ size p + size p) }
@@ -59,7 +60,8 @@ fn row_into(p: Checked, m: u32, r: u32, masks: &[u32], noise: &[u32], key: &[u32
     let _ = product::poly_mul_add(p.params, masks, key, b);
 }
 
-// The 2L rows of one bit.
+// The 2L rows of one bit. This loop and that over the bits stand apart: one for both would take a closure of three lent parts, its clauses longer
+// than the loop.
 #[tactic(auto, using(crate::proofs::Parts::row_room))]
 pub(crate) fn rows_into(
     p: Checked,

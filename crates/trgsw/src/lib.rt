@@ -1,5 +1,6 @@
 #![tactic(auto)]
 // The external product of a pair of polynomials with one bit's rows of the bootstrapping key, and the choice that is made with it (src/trgsw.rs).
+// A pair is lent as two slices throughout, as the C interface lends it (`egl_trgsw_cmux`): a struct of two slices would be taken apart at every call.
 ghost use Rattle.std.specs.Prelude.{◌≡◌, [], ◌∷◌, ◌+◌, ◌<◌, length, IfOk};
 ghost use Rattle.ring.specs.Poly.{plus, times};
 ghost use Rattle.params.specs.Refusal.{answer, outcome, given};
@@ -11,7 +12,8 @@ ghost use Rattle.trgsw.specs.Private.{Each, ExternalGood};
 
 use params::{Checked, Params, Refusal};
 
-// Row r: its digit polynomial, put into d, times both halves of the row, added to the sums. No row is copied.
+// Row r: its digit polynomial, put into d, times both halves of the row, added to the sums. No row is copied. At these
+// lengths the callees refuse nothing.
 #[tactic(auto, using(crate::proofs::Checks::row_fits))]
 fn external_row(
     p: Checked,

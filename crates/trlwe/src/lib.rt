@@ -40,7 +40,7 @@ fn extract_into(a: &[u32], b: &[u32], k: usize, out: &mut [u32])
     out[n] = b[k];
 }
 
-/// The sample of coefficient k: N masks and b[k]. Its phase is the pair's at k, and one for each one of the key after k.
+/// The sample of coefficient k: N masks and b[k]. Its phase is the pair's at k, and one for each one of the key after k. Refusals: 1, 2, 3.
 #[tactic(auto, unfolding(crate::specs::Extract::extract_number))]
 pub fn sample_extract_index(
     p: Params,
@@ -87,7 +87,7 @@ fn encrypt_checks(
     Ok(p)
 }
 
-// The pair, the plain words standing in b.
+// The pair, the plain words standing in b. At these lengths the product refuses nothing.
 #[tactic(auto, using(crate::proofs::Pairs::sealed))]
 fn seal(p: Checked, masks: &[u32], noise: &[u32], key: &[u32], a: &mut [u32], b: &mut [u32])
     requires { (length masks.now ≡ size p) × (length noise.now ≡ size p) × (length key.now ≡ size p) × (length a.old ≡ size p) × (length b.old ≡ size p) }
@@ -99,7 +99,7 @@ fn seal(p: Checked, masks: &[u32], noise: &[u32], key: &[u32], a: &mut [u32], b:
     let _ = product::poly_mul_add(p.params, masks, key, b);
 }
 
-/// Encryption of N doubles, fractions of a turn: `TRLWELv1::encrypt_f64`.
+/// Encryption of N doubles, fractions of a turn: `TRLWELv1::encrypt_f64`. Refusals: 1, 2, 4.
 pub fn encrypt_f64(
     p: Params,
     plain: &[f64],
@@ -119,7 +119,7 @@ pub fn encrypt_f64(
     Ok(())
 }
 
-/// Encryption of N bits, lent as bytes: `TRLWELv1::encrypt_bool`.
+/// Encryption of N bits, lent as bytes: `TRLWELv1::encrypt_bool`. Refusals: 1, 2, 4.
 pub fn encrypt_bool(
     p: Params,
     plain: &[u8],
@@ -139,7 +139,7 @@ pub fn encrypt_bool(
     Ok(())
 }
 
-// The bits, with the scratch for the product lent.
+// The bits, with the scratch for the product lent. At these lengths the product refuses nothing.
 fn open_on(p: Checked, a: &[u32], b: &[u32], key: &[u32], az: &mut [u32], out: &mut [u8])
     requires mask { length a.now ≡ size p }
     requires body { length b.now ≡ size p }
@@ -152,7 +152,7 @@ fn open_on(p: Checked, a: &[u32], b: &[u32], key: &[u32], az: &mut [u32], out: &
     bits_of(b, az, out);
 }
 
-/// Decryption to N bits, as bytes 0 or 1: `TRLWELv1::decrypt_bool`.
+/// Decryption to N bits, as bytes 0 or 1: `TRLWELv1::decrypt_bool`. Refusals: 1, 2, 4.
 #[tactic(auto, using(params::proofs::Ranges::size_to), unfolding(crate::specs::Decrypt::decrypt_pair_number))]
 pub fn decrypt_bool(
     p: Params,
