@@ -1,19 +1,15 @@
--- The refusals taken apart and put together.
+-- The refusals put together.
 -- Assumes nothing.
-use mathlib.Core.Path.{◌≡◌, refl}
+use mathlib.Core.Path.{◌≡◌}
 use mathlib.Core.List.{[], ◌∷◌}
 use Prim.Native.Nat.{ℕ, ◌+◌}
 use Rattle.params.specs.declared.Params.{Params}
 use Rattle.params.specs.Ranges.{params_number}
 use Rattle.refusals.specs.Table.{is}
-use Rattle.refusals.proofs.Table.{good, done}
+use Rattle.refusals.proofs.Table.{done}
 use Rattle.gate_sums.specs.Sum.{constant_number}
 
 module _ (p : Params) (lo : ℕ) where
-  pub constant_good : constant_number p lo ≡ 0 → (params_number p ≡ 0) × (lo ≡ p.n + 1)
-  unfolding constant_number
-  constant_good e = let f = good p (is lo (p.n + 1) 2 ∷ []) refl e in (f.0, f.1.0)
-
   -- for callers: good arguments are not refused
   pub constant_done : params_number p ≡ 0 → lo ≡ p.n + 1 → constant_number p lo ≡ 0
   unfolding constant_number

@@ -23,13 +23,11 @@ use Rattle.ring.proofs.Tab.{at-tab, length-tab, tab_of, tab_ext}
 use Rattle.ring.proofs.Places.{length-plus, at_combined}
 use Rattle.ring.proofs.Samples.{trivial_stored as last_put}
 use Rattle.params.specs.declared.Params.{Params}
-use Rattle.params.specs.Refusal.{if_done}
 use Rattle.params.specs.Sizes.{size}
-use Rattle.params.proofs.Answers.{kept, when_refused}
 use Rattle.gate_sums.specs.declared.Kind.{Kind}
 use Rattle.gate_sums.specs.declared.Weights.{Weights}
 use Rattle.gate_sums.specs.Weights.{weights_of}
-use Rattle.gate_sums.specs.Sum.{summed, mux_sum, constant_word, constant_of}
+use Rattle.gate_sums.specs.Sum.{summed, mux_sum, constant_of}
 
 -- ---- rows
 
@@ -84,10 +82,6 @@ module _ (d c : ℕ) (s l : List ℕ) {new : List ℕ} (e : l ≡ s) (ls : lengt
       let k : length l - 1 ≡ d = omega arith in
       n ∙ ap₂ (λ (m k : ℕ). plus m l (trivial k c)) m k ∙ ap (λ (x : List ℕ). plus (d + 1) x (trivial d c)) e
 
--- a refused call leaves what was there, whatever it would have written
-pub unmoved : (n : ℕ) (x y o : List ℕ) {l : List ℕ} → (n ≡ 0 → ⊥) → l ≡ if_done n x o → l ≡ if_done n y o
-unmoved n x y o h e = e ∙ when_refused n x o h ∙ kept n y o h
-
 -- it has words
 pub long : (m : ℕ) (a b : List ℕ) {l : List ℕ} → l ≡ plus (m + 1) a b → 0 < length l
 long m a b e = omega (arith, ap length e ∙ length-plus (m + 1) a b)
@@ -103,10 +97,6 @@ sum_made p kind a b {l} {new} {w} ew el en =
 pub mux_sum_made : (p : Params) (u v : List ℕ) {l new : List ℕ} → l ≡ plus (size p + 1) u v → new ≡ plus (length l) l (trivial (length l - 1) eighth) → new ≡ mux_sum p u v
 unfolding mux_sum
 mux_sum_made p u v {l} el en = added_last (size p) eighth (plus (size p + 1) u v) l el (length-plus (size p + 1) u v) en
-
-pub constant_made : (p : Params) (value : Bool) {m c : ℕ} {new : List ℕ} → m ≡ p.n + 1 → c ≡ constant_word value → new ≡ trivial (m - 1) c → new ≡ constant_of p value
-unfolding constant_of
-constant_made p value {m} em ec en = let k : m - 1 ≡ p.n = omega arith in en ∙ ap₂ trivial k ec
 
 -- ---- for callers: lengths, and the sums word by word
 
