@@ -14,8 +14,8 @@ ghost use Rattle.ways.specs.Private.{lesser};
 use gate_sums::Kind;
 use params::{Answer, Params};
 
-// How a gate of a circuit is run on ciphertexts: a known bit, the first operand negated, a two-input gate, one whose result is negated, or a choice by the
-// first operand.
+/// How a gate of a circuit is run on ciphertexts: a known bit, the first operand negated, a two-input gate, one whose result is negated, or a choice by the
+/// first operand.
 #[derive(Clone, Copy)]
 pub enum Way {
     Known(bool),
@@ -25,25 +25,26 @@ pub enum Way {
     Choice,
 }
 
-// The way of a circuit's kind; of a number that no kind has, that of the first. Kind 8 runs xor and negates.
+/// The way of a circuit's kind; of a number that no kind has, that of the first. Kind 8 runs xor and negates.
+#[tactic(auto, using(crate::proofs::Needs::way_past), unfolding(crate::specs::Ways::way_of, crate::specs::Ways::ways))]
 pub fn way_of(kind: usize) -> Way
     ensures { result ≡ way_of kind }
 {
-    match kind {
-        1 => Way::Known(true),
-        2 => Way::Negated,
-        3 => Way::Gate(Kind::And),
-        4 => Way::Gate(Kind::Or),
-        5 => Way::Gate(Kind::Nand),
-        6 => Way::Gate(Kind::Nor),
-        7 => Way::Gate(Kind::Xor),
-        8 => Way::NegatedGate(Kind::Xor),
-        9 => Way::Gate(Kind::AndNy),
-        10 => Way::Gate(Kind::AndYn),
-        11 => Way::Gate(Kind::OrNy),
-        12 => Way::Gate(Kind::OrYn),
-        13 => Way::Choice,
-        _ => Way::Known(false),
+    match kinds::Kind::try_from(kind) {
+        Ok(kinds::Kind::False) | Err(_) => Way::Known(false),
+        Ok(kinds::Kind::True) => Way::Known(true),
+        Ok(kinds::Kind::Not) => Way::Negated,
+        Ok(kinds::Kind::And) => Way::Gate(Kind::And),
+        Ok(kinds::Kind::Or) => Way::Gate(Kind::Or),
+        Ok(kinds::Kind::Nand) => Way::Gate(Kind::Nand),
+        Ok(kinds::Kind::Nor) => Way::Gate(Kind::Nor),
+        Ok(kinds::Kind::Xor) => Way::Gate(Kind::Xor),
+        Ok(kinds::Kind::Xnor) => Way::NegatedGate(Kind::Xor),
+        Ok(kinds::Kind::AndNy) => Way::Gate(Kind::AndNy),
+        Ok(kinds::Kind::AndYn) => Way::Gate(Kind::AndYn),
+        Ok(kinds::Kind::OrNy) => Way::Gate(Kind::OrNy),
+        Ok(kinds::Kind::OrYn) => Way::Gate(Kind::OrYn),
+        Ok(kinds::Kind::Mux) => Way::Choice,
     }
 }
 
@@ -51,11 +52,8 @@ pub fn way_of(kind: usize) -> Way
 fn negate(out: &mut [u32])
     ensures { out.new ≡ negative (length out.old) out.old }
 {
-    let n = out.len();
-    let mut i = 0;
-    while i < n {
+    for i in 0..out.len() {
         out[i] = ring::negated(out[i]);
-        i += 1;
     }
 }
 
@@ -79,7 +77,7 @@ fn negated_gate(
     said
 }
 
-// A way on the ciphertexts a, b and c, of which it takes those that it needs. Refusals: 1, 2, as those of the gate that it runs.
+/// A way on the ciphertexts a, b and c, of which it takes those that it needs. Refusals: 1, 2, as those of the gate that it runs.
 pub fn run_way(
     p: Params,
     way: Way,
@@ -108,23 +106,17 @@ fn place(w: usize, n: u32, len: usize) -> usize
 {
     let words = n as usize + 1;
     let most = len / words;
-    if w > most {
-        return len;
-    }
-    w * words
+    if w > most { len } else { w * words }
 }
 
 // The less of two numbers.
 fn less(a: usize, b: usize) -> usize
     ensures { result ≡ lesser a b }
 {
-    if a <= b {
-        return a;
-    }
-    b
+    if a <= b { a } else { b }
 }
 
-// The ciphertext of wire w among ciphertexts one after another; past their end, what there is of it.
+/// The ciphertext of wire w among ciphertexts one after another; past their end, what there is of it.
 pub fn ciphertext(p: Params, ws: &[u32], w: usize) -> &[u32]
     ensures { result.now ≡ cipher_at p ws.now w }
 {
