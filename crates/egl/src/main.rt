@@ -18,8 +18,7 @@ fn tell(input: &[u8], n: usize, text: &mut [u8]) -> usize
     ensures fits { result ≤ length text.new }
     ensures told { (bs : List ℕ) → take (length input.now) bs ≡ take n input.now → take result text.new ≡ text_of bs }
 {
-    let described = report::describe(&input[..n], text);
-    described.length
+    report::describe(&input[..n], text).unwrap()
 }
 
 // The whole program, of any input and output. Of an input whose bytes are known it writes their text, all of it, and nothing else.

@@ -11,9 +11,8 @@ use std::io::Write;
 // Writes the text of a circuit's bytes.
 fn show(output: &mut impl Write, bytes: &[u8]) -> io::Result<()> {
     let mut text = [0u8; 1280];
-    let told = report::describe(bytes, &mut text);
-    let n = told.length;
-    output.write_all(&text[..n])
+    let length = report::describe(bytes, &mut text).unwrap();
+    output.write_all(&text[..length])
 }
 
 // A byte at a place, where there is one.

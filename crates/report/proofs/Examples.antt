@@ -4,10 +4,11 @@ use mathlib.Core.Path.{◌≡◌, refl}
 use mathlib.Core.List.{List, [], ◌∷◌, ◌++◌}
 use Prim.Native.Nat.{ℕ}
 use Rattle.ring.specs.Sums.{tab}
-use Rattle.params.specs.Refusal.{answer}
+use Rattle.std.specs.Prelude.{Ok, Err}
+use Rattle.params.specs.declared.refusal.Refusal.TheVariants.{Length}
 use Rattle.circuit.specs.Form.{answer_of, head_fields}
 use Rattle.report.specs.Decimal.{decimal_to, decimal}
-use Rattle.report.specs.Text.{named, refused_text, refused_line, text_of, describe_number, describe_out, described, describe_answer}
+use Rattle.report.specs.Text.{named, refused_text, refused_line, text_of, describe_number, describe_out, describe_answer}
 
 -- `refused 8 at 0` and the line's end: the text of no bytes at all
 abbrev text : List ℕ
@@ -17,9 +18,9 @@ text = 114 ∷ 101 ∷ 102 ∷ 117 ∷ 115 ∷ 101 ∷ 100 ∷ 32 ∷ 56 ∷ 32 
 abbrev sevens : ℕ → List ℕ
 sevens n = tab n (λ i. 7)
 
--- what is told: the length, or refusal 2 and the length 0; what is left: the text and the bytes behind it, or the slice as it was
-pub told : (describe_answer [] 15 ≡ described (answer 0) 15) × (describe_answer [] 17 ≡ described (answer 0) 15) × (describe_answer [] 14 ≡ described (answer 2) 0)
-unfolding tab answer_of head_fields decimal_to decimal named refused_text text_of describe_number describe_answer
+-- what is told: the length, or refusal 2; what is left: the text and the bytes behind it, or the slice as it was
+pub told : (describe_answer [] 15 ≡ Ok 15) × (describe_answer [] 17 ≡ Ok 15) × (describe_answer [] 14 ≡ Err Length)
+unfolding tab answer_of head_fields decimal_to decimal named refused_text text_of describe_number
 told = (refl, refl, refl)
 
 pub left : (describe_out [] (sevens 15) ≡ text) × (describe_out [] (sevens 17) ≡ text ++ sevens 2) × (describe_out [] (sevens 14) ≡ sevens 14)

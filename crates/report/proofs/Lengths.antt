@@ -1,7 +1,7 @@
 -- How long a circuit and its text can be, so that the program's buffers are held to these lengths: a text has one line with numbers of at most ten digits and
 -- sixteen lines of at most 70 bytes, and the numbers of a refusal are small because its place stands in a head that was accepted or is one of the head's own.
 -- Assumes nothing.
-use mathlib.Core.Path.{◌≡◌, sym, ap, ◌∙◌}
+use mathlib.Core.Path.{◌≡◌, refl, sym, ap, ◌∙◌}
 use mathlib.Core.Logic.{⊎_elim}
 use mathlib.Core.Bool.{Bool, true, false}
 use mathlib.Core.List.{List, [], ◌∷◌}
@@ -12,6 +12,7 @@ use borrow.Author.Tests.{eq-eqb, ne_eqb}
 use lib.Dec.{T, lit<, ltb, ltb→lt}
 use lib.ListN.{length, take, drop, length-append}
 use lib.Seq.{take_at}
+use Rattle.std.specs.Prelude.{Ok}
 use Rattle.params.specs.declared.Answer.{Answer}
 use Rattle.params.specs.Refusal.{answer}
 use Rattle.circuit.specs.Form.{inputs, gates, outputs, wires, gate_place, output_place, output_at, longest, or_else, first, output_answer, answer_of, gate_fields, head_fields, FieldCheck, asks, first_at}
@@ -19,7 +20,6 @@ use Rattle.circuit.specs.Private.{gate_answer, head_answer, refusal}
 use Rattle.kinds.proofs.Table.{both, both_left, both_right}
 use Rattle.circuit.proofs.Accept.{lt_or_ge, head_good, accepted}
 use Rattle.circuit.proofs.Longest.{answer_cut, accepted_whole}
-use Rattle.report.specs.declared.Described.{Described}
 use Rattle.report.specs.Text.{head_text, rows_to, refused_text, room, text_of, describe_out, describe_answer}
 use Rattle.report.proofs.Pieces.{refused_line_fits, length_rows, rows_to_lem}
 use Rattle.report.proofs.Texts.{text_refused, text_long, text_table, length_head, answer_fits, out_fits}
@@ -148,17 +148,13 @@ module _ (bs : List ℕ) where
 pub read_told : (input bs : List ℕ) (n : ℕ) → longest < length input → take (length input) bs ≡ take n input → text_of (take n input) ≡ text_of bs
 read_told input bs n h e = ap text_of (sym e) ∙ text_cut bs (length input) h
 
-module _ (rs out : List ℕ) {d : Described} {last : List ℕ} (h : room ≤ length out) (e : d ≡ describe_answer rs (length out)) (f : last ≡ describe_out rs out) where
-  text_length : d.length ≡ length (text_of rs)
-  text_length =
-      let l = text_fits rs in
-      ap (λ (x : Described). x.length) (e ∙ sym (answer_fits rs (length out) (omega arith)))
+module _ (rs out : List ℕ) (h : room ≤ length out) where
+  -- a slice with room for any text is not refused
+  pub never_short : describe_answer rs (length out) ≡ Ok (length (text_of rs))
+  never_short = let l = text_fits rs in answer_fits rs (length out) (omega arith)
 
-  -- a slice with room for any text gets the text, and no more is told than it has
-  pub told_within : d.length ≤ length out
-  told_within = let l = text_fits rs in let k = text_length in omega arith
-
-  pub told_whole : take d.length last ≡ text_of rs
-  told_whole =
+  -- and gets the text
+  pub told_whole : {last : List ℕ} → last ≡ describe_out rs out → take (length (text_of rs)) last ≡ text_of rs
+  told_whole f =
       let l = text_fits rs in
-      ap (take d.length) (f ∙ sym (out_fits rs out (omega arith))) ∙ take_at (text_of rs) (drop (length (text_of rs)) out) d.length (sym text_length)
+      ap (take (length (text_of rs))) (f ∙ sym (out_fits rs out (omega arith))) ∙ take_at (text_of rs) (drop (length (text_of rs)) out) (length (text_of rs)) refl

@@ -1,12 +1,12 @@
 -- What the program prints of a circuit's bytes (01, 'Circuits'), in ASCII.
-use Rattle.std.specs.Prelude.{List, [], ◌∷◌, ◌++◌, ℕ, zero, suc, ◌/◌, ◌%◌, ◌^◌, leb, length, drop, cond}
+use Rattle.std.specs.Prelude.{Result, List, [], ◌∷◌, ◌++◌, ℕ, zero, suc, ◌/◌, ◌%◌, ◌^◌, leb, length, drop, cond}
 use Rattle.ring.specs.Word.{at}
 use Rattle.ring.specs.Sums.{tab}
 use Rattle.params.specs.declared.Answer.{Answer}
-use Rattle.params.specs.Refusal.{check, answer, if_done}
+use Rattle.params.specs.declared.refusal.Refusal.{Refusal}
+use Rattle.params.specs.Refusal.{check, answer, if_done, given}
 use Rattle.circuit.specs.Form.{version, inputs, gates, outputs, answer_of}
 use Rattle.circuit.specs.Plain.{output_bits, work_of}
-use Rattle.report.specs.declared.Described.{Described}
 use Rattle.report.specs.Decimal.{decimal}
 use Rattle.ring.specs.Bit.{truth}
 
@@ -113,10 +113,6 @@ describe_number bs most = check (leb (length (text_of bs)) most) 2 0
 unfoldable pub describe_out : List ℕ → List ℕ → List ℕ
 describe_out bs out = if_done (describe_number bs (length out)) (text_of bs ++ drop (length (text_of bs)) out) out
 
--- An answer and a length beside it.
-abbrev pub described : Answer → ℕ → Described
-described a n = record { answer = a; length = n }
-
--- The answer and the text's length, 0 where refused.
-unfoldable pub describe_answer : List ℕ → ℕ → Described
-describe_answer bs most = described (answer (describe_number bs most)) (if_done (describe_number bs most) (length (text_of bs)) 0)
+-- The answer and the text's length.
+abbrev pub describe_answer : List ℕ → ℕ → Result ℕ Refusal
+describe_answer bs most = given (answer (describe_number bs most)) (length (text_of bs))

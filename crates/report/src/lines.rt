@@ -1,7 +1,6 @@
 // The lines of the text.
 ghost use Rattle.std.specs.Prelude.{◌≡◌, ◌+◌, ◌/◌, ◌%◌, ◌^◌, ◌≤◌, ◌<◌, length};
 ghost use Rattle.ring.specs.Sums.{tab};
-ghost use Rattle.params.specs.Refusal.{answer};
 ghost use Rattle.circuit.specs.Form.{inputs, outputs, answer_of};
 ghost use Rattle.circuit.specs.Private.{refusal};
 ghost use Rattle.circuit.specs.Plain.{work_of};
@@ -18,7 +17,7 @@ pub(crate) fn put_refused(out: &mut [u8], number: u32, place: usize) -> usize
 {
     let a = put_named(out, 0, b"refused ", number as usize);
     let b = put_named(out, a, b" at ", place);
-    put_byte(out, b, 10)
+    put_byte(out, b, b'\n')
 }
 
 // Version, inputs and gates.
@@ -43,7 +42,7 @@ fn put_head(bytes: &[u8], work: u32, out: &mut [u8]) -> usize
     let a = put_counts(bytes, out);
     let b = put_named(out, a, b" outputs ", counts.outputs);
     let c = put_named(out, b, b" work ", work as usize);
-    put_byte(out, c, 10)
+    put_byte(out, c, b'\n')
 }
 
 // 2^i as a count.
@@ -55,14 +54,13 @@ fn two_to(i: usize) -> usize
 }
 
 // The input bits of row r.
+#[tactic(auto, using(ring::proofs::Tab::tab_none, ring::proofs::Tab::tab_more))]
 fn row_inputs(r: usize, ins: &mut [u8])
     requires { length ins.old ≤ 4 }
     ensures { ins.new ≡ tab (length ins.old) (λ i. r / 2 ^ i % 2) }
 {
-    let mut i = 0;
-    while i < ins.len() {
+    for i in 0..ins.len() {
         ins[i] = (r / two_to(i) % 2) as u8;
-        i += 1;
     }
 }
 
@@ -81,7 +79,8 @@ fn put_row_over(
     ensures out_after { out.new ≡ splice out.old at (row_text bytes.now r) }
 {
     row_inputs(r, ins);
-    circuit::run_plain(bytes, ins, outs);
+    // a valid circuit on slices of its lengths is not refused
+    let _run = circuit::run_plain(bytes, ins, outs);
     put_line(out, at, ins, outs)
 }
 
@@ -108,10 +107,8 @@ fn put_rows(bytes: &[u8], out: &mut [u8], at: usize) -> usize
     let counts = circuit::counts(bytes);
     let rows = two_to(counts.inputs);
     let mut to = at;
-    let mut r = 0;
-    while r < rows {
+    for r in 0..rows {
         to = put_row(bytes, r, out, to);
-        r += 1;
     }
     to
 }
@@ -122,12 +119,11 @@ pub(crate) fn put_text(bytes: &[u8], out: &mut [u8]) -> usize
     ensures value { (result ≡ length (text_of bytes.now)) × (result ≤ 1280) }
     ensures out_after { out.new ≡ splice out.old 0 (text_of bytes.now) }
 {
-    let w = circuit::work(bytes);
-    let answer = w.answer;
-    if answer.number != 0 {
-        return put_refused(out, answer.number, answer.place as usize);
-    }
-    let a = put_head(bytes, w.value, out);
+    let work = match circuit::work(bytes) {
+        Ok(work) => work,
+        Err(refusal) => return put_refused(out, refusal.number(), refusal.place()),
+    };
+    let a = put_head(bytes, work, out);
     let counts = circuit::counts(bytes);
     if 4 < counts.inputs {
         return a;

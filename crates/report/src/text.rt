@@ -15,17 +15,15 @@ pub(crate) fn put_byte(out: &mut [u8], at: usize, b: u8) -> usize
 }
 
 // All bytes of a slice.
+#[tactic(auto, unfolding(crate::specs::Private::splice))]
 pub(crate) fn put(out: &mut [u8], at: usize, src: &[u8]) -> usize
     requires { at + length src.now ≤ length out.old }
     ensures value { result ≡ at + length src.now }
     ensures out_after { out.new ≡ splice out.old at src.now }
 {
-    let mut i = 0;
-    while i < src.len() {
-        out[at + i] = src[i];
-        i += 1;
-    }
-    at + i
+    let end = at + src.len();
+    out[at..end].copy_from_slice(src);
+    end
 }
 
 // The characters of a row of bits.
@@ -34,12 +32,10 @@ fn put_bits(out: &mut [u8], at: usize, bits: &[u8]) -> usize
     ensures value { result ≡ at + length bits.now }
     ensures out_after { out.new ≡ splice out.old at (bits_text bits.now) }
 {
-    let mut i = 0;
-    while i < bits.len() {
-        out[at + i] = 48 + ((bits[i] != 0) as u8);
-        i += 1;
+    for (i, bit) in bits.iter().enumerate() {
+        out[at + i] = b'0' + (*bit != 0) as u8;
     }
-    at + i
+    at + bits.len()
 }
 
 // A number in decimal.
@@ -49,10 +45,10 @@ fn put_number(out: &mut [u8], at: usize, n: usize) -> usize
     ensures out_after { out.new ≡ splice out.old at (decimal n) }
 {
     if n < 10 {
-        return put_byte(out, at, 48 + (n as u8));
+        return put_byte(out, at, b'0' + n as u8);
     }
     let next = put_number(out, at, n / 10);
-    put_byte(out, next, 48 + ((n % 10) as u8))
+    put_byte(out, next, b'0' + (n % 10) as u8)
 }
 
 // A word and the number that it names, which has at most 20 digits.
@@ -72,7 +68,7 @@ pub(crate) fn put_line(out: &mut [u8], at: usize, ins: &[u8], outs: &[u8]) -> us
     ensures out_after { out.new ≡ splice out.old at (line_text ins.now outs.now) }
 {
     let a = put_bits(out, at, ins);
-    let b = put_byte(out, a, 32);
+    let b = put_byte(out, a, b' ');
     let c = put_bits(out, b, outs);
-    put_byte(out, c, 10)
+    put_byte(out, c, b'\n')
 }

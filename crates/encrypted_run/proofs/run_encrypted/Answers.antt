@@ -1,27 +1,30 @@
--- `encrypted_run::run_encrypted` meets its contract: it goes by the answer.
+-- `encrypted_run::run_encrypted` meets its contract: what its checks passed is what its work asks.
 -- Assumes nothing.
-use mathlib.Core.Path.{◌≡◌, sym, ap, ◌∙◌}
+use mathlib.Core.Path.{sym, ap, ◌∙◌}
 use lib.ListN.{length}
-use Rattle.encrypted_run.specs.Refusals.{encrypted_answer}
-use Rattle.params.specs.declared.Answer.{Answer}
-use Rattle.params.proofs.Answers.{kept, done}
-use Rattle.encrypted_run.specs.Run.{wires_after, outputs_after}
-use Rattle.encrypted_run.proofs.Checks.{run_good}
+use Rattle.params.specs.Refusal.{answer}
+use Rattle.circuit.specs.Form.{answer_of, or_else}
+use Rattle.circuit.proofs.Accept.{accepted, both_done}
+use Rattle.encrypted_run.specs.declared.Lengths.{Lengths}
+use Rattle.encrypted_run.specs.Refusals.{material_number, lengths_of}
+use Rattle.encrypted_run.proofs.Checks.{keys_good, asked, given_back}
 use Rattle.encrypted_run.proofs.run_encrypted.Goals as goal
 
 pub run_into-requires : goal.run_into-requires
-run_into-requires c = run_good c.args.p _ _ c.args.bytes.now _ _ _ (sym (ap (λ (a : Answer). a.number) c.run_answer-said.ensures) ∙ c.if-said-eq0.true)
-
-pub returns-then-said-eq0 : goal.returns-then-said-eq0
-unfolding wires_after outputs_after
-returns-then-said-eq0 c =
-    let e = c.run_answer-said.ensures in
-    let z = sym (ap (λ (a : Answer). a.number) e) ∙ c.if-said-eq0.true in
-    record { said = e; held = done _ _ _ z c.run_into.ensures.held; written = done _ _ _ z c.run_into.ensures.written }
-
-pub returns-else-said-eq0 : goal.returns-else-said-eq0
-unfolding wires_after outputs_after
-returns-else-said-eq0 c =
-    let e = c.run_answer-said.ensures in
-    let k = λ (z : (encrypted_answer c.args.p (length c.args.ksk.now) (length c.args.bsk.now) c.args.bytes.now (length c.args.ins.now) (length c.args.wires.now) (length c.args.out.now)).number ≡ 0). c.if-said-eq0.false (ap (λ (a : Answer). a.number) e ∙ z) in
-    record { said = e; held = kept _ _ _ k; written = kept _ _ _ k }
+unfolding lengths_of
+run_into-requires c =
+    let a = c.args in
+    let b = a.bytes.now in
+    let before = answer (material_number a.p (length a.ksk.now) (length a.bsk.now)) in
+    let r = given_back (or_else before (answer_of b)) (lengths_of a.p b) (sym c.read.ensures ∙ c.in_ok-t.was) in
+    let z = both_done before (answer_of b) r.0 in
+    let t = r.1 in
+    record {
+      step = record {
+        keys = keys_good a.p _ _ z.0;
+        valid = accepted b z.1;
+        wires_length = asked _ _ _ _ c.unless-3.ensures c.in_ok-unless-3.was ∙ ap (λ (l : Lengths). l.held) t;
+      };
+      ins_length = asked _ _ _ _ c.unless.ensures c.in_ok-unless.was ∙ ap (λ (l : Lengths). l.ins) t;
+      outs_length = asked _ _ _ _ c.unless-2.ensures c.in_ok-unless-2.was ∙ ap (λ (l : Lengths). l.outs) t;
+    }

@@ -1,12 +1,8 @@
 use mathlib.Core.Path.{◌≡◌}
-use Prim.Native.Nat.{◌≤◌, ◌-◌}
 use lib.ListN.{length}
 use Rattle.report.specs.Text.{rows_to}
 use Rattle.report.proofs.Pieces.{Written}
 use Rattle.report.proofs.lines.put_rows.Given as goal
 
 abbrev pub invariant-loop-r : goal.invariant-loop-r
-invariant-loop-r l = (l.r ≤ l.rows) × (length l.out ≡ length l.initial.out) × Written l.initial.out l.at (rows_to l.bytes l.r) l.out l.to
-
-abbrev pub decreases-loop-r : goal.decreases-loop-r
-decreases-loop-r l = l.rows - l.r
+invariant-loop-r l = (length l.out ≡ length l.initial.out) × Written l.initial.out l.at (rows_to l.bytes l.r) l.out l.to

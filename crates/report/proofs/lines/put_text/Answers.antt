@@ -1,32 +1,30 @@
 -- `report::lines::put_text` meets its contract: a refusal's line, or line 1 with the table behind it.
 -- Assumes nothing.
-use mathlib.Core.Path.{sym, ap, ◌∙◌}
+use mathlib.Core.Path.{sym, ap, ap₂, ◌∙◌}
 use mathlib.Core.List.{List}
 use Prim.Native.Nat.{ℕ, ◌^◌, ◌≤◌, ◌<◌}
 use native.Mathlib.Nat.{zero-add}
 use native.Mathlib.Omega.{arith}
 use lib.ListN.{length}
-use Rattle.params.specs.declared.Answer.{Answer}
 use Rattle.circuit.specs.Form.{inputs}
-use Rattle.circuit.specs.Private.{refusal}
 use Rattle.circuit.proofs.Accept.{accepted}
 use Rattle.report.specs.Private.{splice}
-use Rattle.report.specs.Text.{head_text, rows_to, refused_text}
+use Rattle.report.specs.Text.{head_text, rows_to, refused_line}
 use Rattle.report.proofs.Pieces.{written_next, rows_to_lem, length_rows, counts_inputs}
-use Rattle.report.proofs.Texts.{work_said, work_value, text_refused, text_long, text_table, length_head}
+use Rattle.report.proofs.Texts.{work_good, text_of_refusal, text_long, text_table, length_head}
 use Rattle.report.proofs.lines.put_text.Goals as goal
 
 pub put_head-a-requires : goal.put_head-a-requires
 put_head-a-requires c =
     let b = c.args.bytes.now in
-    let w = c.work-w.ensures in
-    let z = sym (ap (λ (x : Answer). x.number) (work_said b w)) ∙ c.if-answer-ne0.false in
-    (z, work_value b w z, omega arith)
+    let w = sym c.work.ensures ∙ c.in-Ok.is in
+    let z = work_good b w in
+    (z.0, z.1, omega arith)
 
 pub put_rows-requires : goal.put_rows-requires
 put_rows-requires c =
     let b = c.args.bytes.now in
-    let z = sym (ap (λ (x : Answer). x.number) (work_said b c.work-w.ensures)) ∙ c.if-answer-ne0.false in
+    let z = (work_good b (sym c.work.ensures ∙ c.in-Ok.is)).0 in
     let i = counts_inputs b c.counts-counts.ensures in
     let v = accepted b z in
     let l = length_head b v in
@@ -34,22 +32,20 @@ put_rows-requires c =
     let k = c.put_head-a.auto.out in
     (z, omega arith, v.head.outputs_to, omega arith)
 
-pub returns-then-answer-ne0-clause-value : goal.returns-then-answer-ne0-clause-value
-returns-then-answer-ne0-clause-value c =
+pub returns-in-Err-clause-value : goal.returns-in-Err-clause-value
+returns-in-Err-clause-value c =
     let a = c.args in
     let b = a.bytes.now in
-    let s = work_said b c.work-w.ensures in
-    let t = ap (λ (x : Answer). refused_text (refusal x.number x.place)) s ∙ text_refused b (λ z. c.if-answer-ne0.true (ap (λ (x : Answer). x.number) s ∙ z)) in
+    let t = ap₂ refused_line c.number.ensures c.place.ensures ∙ text_of_refusal b (sym c.work.ensures ∙ c.in-Err.is) in
     let e = c.put_refused.ensures in
     let l = e.value.1 in
     (e.value.0 ∙ ap length t, omega arith)
 
-pub returns-then-answer-ne0-clause-out_after : goal.returns-then-answer-ne0-clause-out_after
-returns-then-answer-ne0-clause-out_after c =
+pub returns-in-Err-clause-out_after : goal.returns-in-Err-clause-out_after
+returns-in-Err-clause-out_after c =
     let a = c.args in
     let b = a.bytes.now in
-    let s = work_said b c.work-w.ensures in
-    let t = ap (λ (x : Answer). refused_text (refusal x.number x.place)) s ∙ text_refused b (λ z. c.if-answer-ne0.true (ap (λ (x : Answer). x.number) s ∙ z)) in
+    let t = ap₂ refused_line c.number.ensures c.place.ensures ∙ text_of_refusal b (sym c.work.ensures ∙ c.in-Err.is) in
     let e = c.put_refused.ensures in
     let l = e.value.1 in
     e.out_after ∙ ap (λ (x : List ℕ). splice a.out.now 0 x) t
@@ -58,7 +54,7 @@ pub returns-then-counts-gt4-clause-value : goal.returns-then-counts-gt4-clause-v
 returns-then-counts-gt4-clause-value c =
     let a = c.args in
     let b = a.bytes.now in
-    let z = sym (ap (λ (x : Answer). x.number) (work_said b c.work-w.ensures)) ∙ c.if-answer-ne0.false in
+    let z = (work_good b (sym c.work.ensures ∙ c.in-Ok.is)).0 in
     let i = counts_inputs b c.counts-counts.ensures in
     let h : 4 < inputs b = omega arith in
     let t = text_long b z h in
@@ -71,7 +67,7 @@ pub returns-then-counts-gt4-clause-out_after : goal.returns-then-counts-gt4-clau
 returns-then-counts-gt4-clause-out_after c =
     let a = c.args in
     let b = a.bytes.now in
-    let z = sym (ap (λ (x : Answer). x.number) (work_said b c.work-w.ensures)) ∙ c.if-answer-ne0.false in
+    let z = (work_good b (sym c.work.ensures ∙ c.in-Ok.is)).0 in
     let i = counts_inputs b c.counts-counts.ensures in
     let h : 4 < inputs b = omega arith in
     let t = text_long b z h in
@@ -85,7 +81,7 @@ returns-clause-value c =
     let a = c.args in
     let b = a.bytes.now in
     let o = a.out.now in
-    let z = sym (ap (λ (x : Answer). x.number) (work_said b c.work-w.ensures)) ∙ c.if-answer-ne0.false in
+    let z = (work_good b (sym c.work.ensures ∙ c.in-Ok.is)).0 in
     let i = counts_inputs b c.counts-counts.ensures in
     let h : inputs b ≤ 4 = omega arith in
     let v = accepted b z in
@@ -105,7 +101,7 @@ returns-clause-out_after c =
     let a = c.args in
     let b = a.bytes.now in
     let o = a.out.now in
-    let z = sym (ap (λ (x : Answer). x.number) (work_said b c.work-w.ensures)) ∙ c.if-answer-ne0.false in
+    let z = (work_good b (sym c.work.ensures ∙ c.in-Ok.is)).0 in
     let i = counts_inputs b c.counts-counts.ensures in
     let h : inputs b ≤ 4 = omega arith in
     let v = accepted b z in

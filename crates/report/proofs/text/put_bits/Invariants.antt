@@ -1,5 +1,4 @@
 use mathlib.Core.Path.{◌≡◌}
-use Prim.Native.Nat.{◌≤◌, ◌-◌}
 use lib.ListN.{length, get_or}
 use Rattle.ring.specs.Sums.{tab}
 use Rattle.report.specs.Private.{splice}
@@ -7,7 +6,4 @@ use Rattle.report.specs.Text.{bit_char}
 use Rattle.report.proofs.text.put_bits.Given as goal
 
 abbrev pub invariant-loop-i : goal.invariant-loop-i
-invariant-loop-i l = (l.i ≤ length l.bits) × (length l.out ≡ length l.initial.out) × (l.out ≡ splice l.initial.out l.at (tab l.i (λ j. bit_char (get_or l.bits j 0))))
-
-abbrev pub decreases-loop-i : goal.decreases-loop-i
-decreases-loop-i l = length l.bits - l.i
+invariant-loop-i l = (length l.out ≡ length l.initial.out) × (l.out ≡ splice l.initial.out l.at (tab l.i (λ j. bit_char (get_or l.bits j 0))))
