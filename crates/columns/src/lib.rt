@@ -35,7 +35,7 @@ fn pair_into(
     let a = ways::ciphertext(p, pairs, 2 * i);
     let b = ways::ciphertext(p, pairs, 2 * i + 1);
     let none = &pairs[..0];
-    ways::run_way(p, way, a, b, none, ksk, bsk, out);
+    ways::run_way(p, way, a, b, none, ksk, bsk, out).unwrap();
 }
 
 // The results of all pairs, each in its place.
@@ -54,7 +54,16 @@ fn column_into(
     let words = p.sizes.level0;
     for i in 0..count {
         let from = i * words;
-        pair_into(p, kind, count, pairs, i, ksk, bsk, &mut out[from..from + words]);
+        pair_into(
+            p,
+            kind,
+            count,
+            pairs,
+            i,
+            ksk,
+            bsk,
+            &mut out[from..from + words],
+        );
     }
 }
 

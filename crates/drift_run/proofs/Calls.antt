@@ -8,22 +8,23 @@ use borrow.Author.Tests.{lt-ltb}
 use lib.ListN.{length}
 use Rattle.params.specs.declared.Params.{Params}
 use Rattle.params.specs.declared.Answer.{Answer}
+use Rattle.params.specs.Ranges.{params_number}
 use Rattle.params.proofs.Answers.{when_done}
 use Rattle.circuit.specs.Form.{gates}
 use Rattle.encrypted_run.specs.Private.{StepGood, RunGood as EncryptedGood}
 use Rattle.encrypted_run.specs.Run.{stepped, step_after}
 use Rattle.encrypted_run.proofs.Checks.{step_done}
-use Rattle.drift_run.specs.Private.{DriftGateGood, DriftRunGood}
+use Rattle.drift_run.specs.Private.{DriftGate, DriftRun}
 
-module _ (p : Params) (lk ls : ℕ) (key bs : List ℕ) where
-  pub step_good : (lw ld : ℕ) → DriftGateGood p lk ls key bs lw ld → StepGood p lk ls bs lw
+module _ (p : Params) (z : params_number p ≡ 0) (lk ls : ℕ) (key bs : List ℕ) where
+  pub step_good : (lw ld : ℕ) → DriftGate p lk ls key bs lw ld → StepGood p lk ls bs lw
   step_good lw ld g = record {
-    keys = record { good = g.passing.finished.secret.good; switching = g.switching; bootstrapping = g.bootstrapping };
+    keys = record { good = z; switching = g.switching; bootstrapping = g.bootstrapping };
     valid = g.passing.finished.valid;
     wires_length = g.passing.finished.wires_length;
   }
 
-  pub encrypted_good : (li lp lw lo ld : ℕ) → DriftRunGood p lk ls key bs li lp lw lo ld → EncryptedGood p lk ls bs li lw lo
+  pub encrypted_good : (li lp lw lo ld : ℕ) → DriftRun p lk ls key bs li lp lw lo ld → EncryptedGood p lk ls bs li lw lo
   encrypted_good li lp lw lo ld g = record { step = step_good lw ld g.gate; ins_length = g.ins_length; outs_length = g.outs_length }
 
 -- one gate

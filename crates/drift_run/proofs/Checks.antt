@@ -1,35 +1,34 @@
 -- The refusals taken apart: what each answer of 0 tells, and that good arguments are not refused.
 -- Assumes nothing.
 use mathlib.Core.Path.{◌≡◌, refl}
-use mathlib.Core.Bool.{Bool, true, false}
+use mathlib.Core.Bool.{true}
 use mathlib.Core.List.{List, [], ◌∷◌}
 use Prim.Native.Nat.{ℕ, ◌+◌, ◌*◌}
-use lib.Dec.{eqb}
+use borrow.Author.Tests.{eq-eqb, ne_eqb}
 use lib.ListN.{length}
 use Rattle.params.specs.declared.Params.{Params}
-use Rattle.params.specs.Refusal.{check, answer}
+use Rattle.params.specs.Ranges.{params_number}
+use Rattle.std.specs.Prelude.{Ok, Err}
+use Rattle.params.specs.declared.refusal.Refusal.{Refusal}
+use Rattle.params.specs.Refusal.{answer, given, outcome}
+use Rattle.params.proofs.Answers.{given_done}
 use Rattle.params.specs.Sizes.{size, switching_words, bootstrapping_words}
 use Rattle.refusals.specs.Table.{Check, is, holds}
 use Rattle.refusals.proofs.Table.{good, done, facts, none}
-use Rattle.tlwe.specs.Key.{binary, key_number}
-use Rattle.circuit.specs.Form.{inputs, outputs, wires}
+use Rattle.tlwe.specs.Key.{binary}
+use Rattle.circuit.specs.Form.{inputs, outputs, wires, answer_of}
 use Rattle.circuit.specs.Valid.{Valid}
+use Rattle.encrypted_run.specs.Refusals.{around}
+use Rattle.turns.proofs.Given.{number_refused, refused_alike}
 use Rattle.encrypted_run.proofs.Checks.{around_good, around_done}
 use Rattle.drift_run.specs.Refusals.{secrets_number, drift_wires_number, lent_number, drift_answer, drift_gate_answer}
 use Rattle.drift_run.specs.Private.{Secret, DriftGateGood, DriftRunGood}
 
 -- ---- the keys
 
--- the test of a secret key, as the code makes it
-pub key_test : (key : List ℕ) {k : ℕ} → k ≡ key_number key → eqb k 0 ≡ binary key
-key_test key e = rw e (go (binary key))
-  where
-    go : (b : Bool) → eqb (check b 4 0) 0 ≡ b
-    go true = refl
-    go false = refl
-
 -- what holds of the keys that are not refused
 pub record SecretsGood (p : Params) (lk ls : ℕ) (key z : List ℕ) : Type 0 where
+  pub good : params_number p ≡ 0
   pub secret : Secret p key
   pub switching : lk ≡ switching_words p
   pub bootstrapping : ls ≡ bootstrapping_words p
@@ -45,7 +44,8 @@ module _ (p : Params) (lk ls : ℕ) (key z : List ℕ) where
   secrets_good e =
       let f = good p secrets refl e in
       record {
-        secret = record { good = f.0; long = f.1.1.1.0; bits = f.1.1.1.1.1.0 };
+        good = f.0;
+        secret = record { long = f.1.1.1.0; bits = f.1.1.1.1.1.0 };
         switching = f.1.0;
         bootstrapping = f.1.1.0;
         long = f.1.1.1.1.0;
@@ -54,7 +54,25 @@ module _ (p : Params) (lk ls : ℕ) (key z : List ℕ) where
 
   secrets_done : SecretsGood p lk ls key z → secrets_number p lk ls key z ≡ 0
   unfolding secrets_number
-  secrets_done k = done p secrets (k.secret.good, (k.switching, (k.bootstrapping, (k.secret.long, (k.long, (k.secret.bits, (k.bits, tt)))))))
+  secrets_done k = done p secrets (k.good, (k.switching, (k.bootstrapping, (k.secret.long, (k.long, (k.secret.bits, (k.bits, tt)))))))
+
+-- ---- the code's checks, one part after the other
+
+module _ (before : ℕ) (bs : List ℕ) (after : ℕ) {A : Type 0} (w : A) where
+  -- what does not depend on the circuit
+  pub around_first : {B : Type 0} (v : B) {s : Refusal} → given (answer before) v ≡ Err s → given (around before bs after) w ≡ Err s
+  around_first v {s = s} e = let h = number_refused (answer before) v e in rw (ne_eqb before 0 h) (refused_alike (answer before) v w e)
+
+  -- the circuit's own
+  pub around_circuit : before ≡ 0 → {s : Refusal} → outcome (answer_of bs) ≡ Err s → given (around before bs after) w ≡ Err s
+  around_circuit z e = let h = number_refused (answer_of bs) tt e in rw (eq-eqb before 0 z) (rw (ne_eqb (answer_of bs).number 0 h) (refused_alike (answer_of bs) tt w e))
+
+  -- what does
+  pub around_last : before ≡ 0 → (answer_of bs).number ≡ 0 → {s : Refusal} → outcome (answer after) ≡ Err s → given (around before bs after) w ≡ Err s
+  around_last z o e = rw (eq-eqb before 0 z) (rw (eq-eqb (answer_of bs).number 0 o) (refused_alike (answer after) tt w e))
+
+  pub around_passed : before ≡ 0 → (answer_of bs).number ≡ 0 → after ≡ 0 → given (around before bs after) w ≡ Ok w
+  around_passed z o a = rw (eq-eqb before 0 z) (rw (eq-eqb (answer_of bs).number 0 o) (given_done (answer after) w a))
 
 -- ---- the answers
 
@@ -70,9 +88,12 @@ module _ (p : Params) (lk ls : ℕ) (key z bs : List ℕ) where
   together lw ld e v w d =
       let k = secrets_good p lk ls key z e in
       record {
-        passing = record { finished = record { secret = k.secret; valid = v; wires_length = w }; drifts_length = d };
-        switching = k.switching;
-        bootstrapping = k.bootstrapping;
+        good = k.good;
+        lent = record {
+          passing = record { finished = record { secret = k.secret; valid = v; wires_length = w }; drifts_length = d };
+          switching = k.switching;
+          bootstrapping = k.bootstrapping;
+        };
       }
 
   pub gate_good : (lw ld : ℕ) → (drift_gate_answer p lk ls key z bs lw ld).number ≡ 0 → DriftGateGood p lk ls key bs lw ld
@@ -87,29 +108,29 @@ module _ (p : Params) (lk ls : ℕ) (key z bs : List ℕ) where
   run_good li lp lw lo ld e =
       let s = around_good (secrets_number p lk ls key z) bs _ e in
       let f = facts (run_lengths li lp lw lo ld) refl s.2 in
-      record {
-        gate = together lw ld s.0 s.1 f.1.1.1.0 f.1.1.1.1.0;
-        ins_length = f.0;
-        plain_length = f.1.0;
-        outs_length = f.1.1.0;
-      }
+      let g = together lw ld s.0 s.1 f.1.1.1.0 f.1.1.1.1.0 in
+      record { good = g.good; lent = record { gate = g.lent; ins_length = f.0; plain_length = f.1.0; outs_length = f.1.1.0 } }
 
   -- for callers: good arguments are not refused, where the level-1 key is binary and of its length
   module _ (long : length z ≡ size p) (bits : binary z ≡ true) where
     keys_done : (lw ld : ℕ) → DriftGateGood p lk ls key bs lw ld → secrets_number p lk ls key z ≡ 0
     keys_done lw ld g =
+        let t = g.lent in
         secrets_done p lk ls key z
-        (record { secret = g.passing.finished.secret; switching = g.switching; bootstrapping = g.bootstrapping; long = long; bits = bits })
+        (record { good = g.good; secret = t.passing.finished.secret; switching = t.switching; bootstrapping = t.bootstrapping; long = long; bits = bits })
 
     pub gate_done : (lw ld : ℕ) → DriftGateGood p lk ls key bs lw ld → drift_gate_answer p lk ls key z bs lw ld ≡ answer 0
     unfolding drift_gate_answer drift_wires_number
     gate_done lw ld g =
-        around_done (secrets_number p lk ls key z) bs _ (keys_done lw ld g) g.passing.finished.valid
-        (none (gate_lengths lw ld) (g.passing.finished.wires_length, (g.passing.drifts_length, tt)))
+        let t = g.lent.passing in
+        around_done (secrets_number p lk ls key z) bs _ (keys_done lw ld g) t.finished.valid
+        (none (gate_lengths lw ld) (t.finished.wires_length, (t.drifts_length, tt)))
 
     pub run_done : (li lp lw lo ld : ℕ) → DriftRunGood p lk ls key bs li lp lw lo ld → drift_answer p lk ls key z bs li lp lw lo ld ≡ answer 0
     unfolding drift_answer lent_number
     run_done li lp lw lo ld g =
-        around_done (secrets_number p lk ls key z) bs _ (keys_done lw ld g.gate) g.gate.passing.finished.valid
+        let r = g.lent in
+        let t = r.gate.passing in
+        around_done (secrets_number p lk ls key z) bs _ (keys_done lw ld (record { good = g.good; lent = r.gate })) t.finished.valid
         (none (run_lengths li lp lw lo ld)
-        (g.ins_length, (g.plain_length, (g.outs_length, (g.gate.passing.finished.wires_length, (g.gate.passing.drifts_length, tt))))))
+        (r.ins_length, (r.plain_length, (r.outs_length, (t.finished.wires_length, (t.drifts_length, tt))))))

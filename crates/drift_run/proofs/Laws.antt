@@ -90,13 +90,13 @@ module _ (p : Params) (ksk bsk key z bs ws ds plain : List ℕ) (good : DriftGat
   -- ---- lengths
 
   within : inputs bs * (p.n + 1) ≤ length ws
-  within = rw good.passing.finished.wires_length (inputs_fit p bs)
+  within = rw good.lent.passing.finished.wires_length (inputs_fit p bs)
 
   drifts_fill : (n : ℕ) → length (words_of (xs n)) ≡ inputs bs + n
   drifts_fill n =
-      let f = good.passing.finished in
+      let f = good.lent.passing.finished in
       ap length (drifts_reckoned p key z f.secret.bits ksk bsk bs ins plain n).words_are
-      ∙ drifts_length p (in_range p f.secret.good) key z f.secret.bits ksk bsk bs ins plain f.valid (length-take-le (inputs bs * (p.n + 1)) ws within) n
+      ∙ drifts_length p (in_range p good.good) key z f.secret.bits ksk bsk bs ins plain f.valid (length-take-le (inputs bs * (p.n + 1)) ws within) n
 
   ciphers_long : (n : ℕ) → n ≤ gates bs → length (ciphers_then n) ≡ length ws
   ciphers_long n h =
@@ -104,7 +104,7 @@ module _ (p : Params) (ksk bsk key z bs ws ds plain : List ℕ) (good : DriftGat
       let l = held_length p ksk bsk bs ws within n in
       let d = length-drop ((inputs bs + n) * (p.n + 1)) ws in
       let f = fits p bs n h in
-      let w = good.passing.finished.wires_length in
+      let w = good.lent.passing.finished.wires_length in
       omega (arith, e, l, d, f, w)
 
   drifts_long : (n : ℕ) → n ≤ gates bs → length (drifts_then n) ≡ length ds
@@ -112,7 +112,7 @@ module _ (p : Params) (ksk bsk key z bs ws ds plain : List ℕ) (good : DriftGat
       let e = length-append (words_of (xs n)) (drop (inputs bs + n) ds) in
       let l = drifts_fill n in
       let d = length-drop (inputs bs + n) ds in
-      let f = good.passing.drifts_length in
+      let f = good.lent.passing.drifts_length in
       omega (arith, e, l, d, f, h)
 
   -- so no call is refused
@@ -132,7 +132,7 @@ module _ (p : Params) (ksk bsk key z bs ws ds plain : List ℕ) (good : DriftGat
 
   -- the words read as signed are the drifts again
   drifts_back : (n : ℕ) → signed_of (words_of (xs n)) ≡ xs n
-  drifts_back n = let r = drifts_reckoned p key z good.passing.finished.secret.bits ksk bsk bs ins plain n in ap (λ (l : List ℕ). map centre l) r.words_are ∙ sym r.drifts_are
+  drifts_back n = let r = drifts_reckoned p key z good.lent.passing.finished.secret.bits ksk bsk bs ins plain n in ap (λ (l : List ℕ). map centre l) r.words_are ∙ sym r.drifts_are
 
   drifts_read : (n : ℕ) → drifts_before bs n (drifts_then n) ≡ xs n
   drifts_read n = ap (λ (l : List ℕ). map centre l) (words_read n) ∙ drifts_back n
@@ -238,8 +238,8 @@ module _ (p : Params) (ksk bsk key z bs ws ds plain : List ℕ) (good : DriftGat
   pub steps_run : (ended.ciphers ≡ ciphers_of p ksk bsk bs ins) × (ended.drifts ≡ words_of (drifts_of p key z ksk bsk bs ins plain))
   steps_run =
       let e = called_are (gates bs) (omega arith) in
-      let all : length ds ≤ inputs bs + gates bs = (let d = good.passing.drifts_length in omega (arith, d)) in (
-        run_end p ksk bsk bs ws within (gates bs) (omega arith) (omega arith) good.passing.finished.wires_length (ap (λ (s : Standing). s.ciphers) e),
+      let all : length ds ≤ inputs bs + gates bs = (let d = good.lent.passing.drifts_length in omega (arith, d)) in (
+        run_end p ksk bsk bs ws within (gates bs) (omega arith) (omega arith) good.lent.passing.finished.wires_length (ap (λ (s : Standing). s.ciphers) e),
         ap (λ (s : Standing). s.drifts) e ∙ ap (λ (x : List ℕ). words_of (xs (gates bs)) ++ x) (drop_of_length-le ds all) ∙ append-nil (words_of (xs (gates bs))),
       )
 

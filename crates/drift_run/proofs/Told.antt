@@ -1,42 +1,47 @@
 -- What is told of a gate, made of its parts.
 -- Assumes nothing.
 use mathlib.Core.Path.{◌≡◌, refl, ap, ap₂, ◌∙◌}
-use mathlib.Core.Bool.{Bool, true, false, cond}
-use mathlib.Core.List.{[], ◌∷◌}
+use mathlib.Core.Bool.{Bool, true, false, cond, ◌&&◌}
+use mathlib.Core.List.{List, [], ◌∷◌}
 use Prim.Native.Nat.{ℕ, ◌+◌, ◌%◌}
 use native.Mathlib.Nat.{mod-add-mod}
+use Rattle.std.specs.List.{list_all, fold}
 use Rattle.ring.specs.Word.{Q, neg}
+use Rattle.ring.specs.Phase.{phase_of}
 use Rattle.ring.proofs.Words.{neg-mod}
+use Rattle.params.specs.declared.Params.{Params}
+use Rattle.tlwe.specs.Plain.{bit_word}
+use Rattle.gate_sums.specs.declared.Kind.{Kind}
+use Rattle.gate_sums.specs.Sum.{summed}
+use Rattle.ways.specs.declared.Way.TheVariants.{Gate, NegatedGate}
 use Rattle.drift.specs.PrivateCircuit.{all_words, worst_words}
-use Rattle.drift_run.specs.declared.by_way.Drifted.{Drifted}
-use Rattle.drift_run.specs.Private.{drifted}
+use Rattle.drift.specs.PrivateShort.{side_of, carried_word, short_word}
 use Rattle.drift_size.specs.Size.{inside_word, worse_word}
 
-abbrev pub told : ℕ → Bool → ℕ → Drifted
-told d i w = record { drift = d; inside = i; worst = w }
+-- both of two
+pub both_are : (a b : Bool) → (a && b) ≡ cond a b false
+both_are true b = refl
+both_are false b = refl
 
--- no rotation
-pub told_still : (d : ℕ) → told d true 0 ≡ drifted d []
-unfolding all_words worst_words
-told_still d = refl
+-- `all` and `fold` over the drifts that are brought in
+pub all_are : (ds : List ℕ) → list_all inside_word ds ≡ all_words ds
+unfolding all_words
+all_are [] = refl
+all_are (d ∷ ds) = both_are (inside_word d) (list_all inside_word ds) ∙ ap (λ (b : Bool). cond (inside_word d) b false) (all_are ds)
 
--- one
-pub told_one : {d e x y w : ℕ} {i j : Bool} → d ≡ e → x ≡ y → j ≡ inside_word x → i ≡ cond j true false → w ≡ worse_word 0 x → told d i w ≡ drifted e (y ∷ [])
-unfolding all_words worst_words
-told_one {d} {e} {x} {y} {w} {i} {j} ed ex ej ei ew =
-    let inside : i ≡ cond (inside_word y) true false = ei ∙ ap (λ (b : Bool). cond b true false) (ej ∙ ap inside_word ex) in
-    let worst : w ≡ worse_word 0 y = ew ∙ ap (worse_word 0) ex in
-    ap₂ (λ (u : ℕ) (b : Bool). told u b w) ed inside ∙ ap (told e (cond (inside_word y) true false)) worst
+pub worst_is : (w : ℕ) (ds : List ℕ) → fold worse_word w ds ≡ worst_words w ds
+unfolding worst_words
+worst_is w [] = refl
+worst_is w (d ∷ ds) = worst_is (worse_word w d) ds
 
--- two
-pub told_two : {d e x y u v w t : ℕ} {i j k l : Bool} → d ≡ e → x ≡ y → u ≡ v → j ≡ inside_word x → k ≡ inside_word u → l ≡ cond k true false → i ≡ cond j l false
-    → t ≡ worse_word 0 x → w ≡ worse_word t u → told d i w ≡ drifted e (y ∷ v ∷ [])
-unfolding all_words worst_words
-told_two {d} {e} {x} {y} {u} {v} {w} {t} {i} {j} {k} {l} ed ex eu ej ek el ei et ew =
-    let second : l ≡ cond (inside_word v) true false = el ∙ ap (λ (b : Bool). cond b true false) (ek ∙ ap inside_word eu) in
-    let inside : i ≡ cond (inside_word y) (cond (inside_word v) true false) false = ei ∙ ap₂ (λ (a b : Bool). cond a b false) (ej ∙ ap inside_word ex) second in
-    let worst : w ≡ worse_word (worse_word 0 y) v = ew ∙ ap₂ worse_word (et ∙ ap (worse_word 0) ex) eu in
-    ap₂ (λ (u : ℕ) (b : Bool). told u b w) ed inside ∙ ap (told e (cond (inside_word y) (cond (inside_word v) true false) false)) worst
+-- the drift of a two-input gate, whose result is negated or not
+pub one_made : (p : Params) (kind : Kind) (negated : Bool) (key a b own : List ℕ) (da : ℕ) {phase carried drift : ℕ} {side : Bool}
+    → phase ≡ phase_of p.n key own → side ≡ side_of p key (summed p kind a b) → carried ≡ cond negated (neg (bit_word side) % Q) (bit_word side) → drift ≡ (phase + neg carried) % Q
+    → drift ≡ short_word p key (cond negated (NegatedGate kind) (Gate kind)) a b b da own
+unfolding short_word carried_word
+one_made p kind true key a b own da ep es ec ed =
+    ed ∙ ap₂ (λ (x y : ℕ). (x + neg y) % Q) ep (ec ∙ ap (λ s. neg (bit_word s) % Q) es) ∙ ap (λ (n : ℕ). (phase_of p.n key own + n) % Q) (neg-mod (neg (bit_word (side_of p key (summed p kind a b)))))
+one_made p kind false key a b own da ep es ec ed = ed ∙ ap₂ (λ (x y : ℕ). (x + neg y) % Q) ep (ec ∙ ap bit_word es)
 
 -- what `mux` carries, added up modulo 2^32
 pub carried_sum : (f : ℕ) {x y u v s t : ℕ} (c : ℕ) → x ≡ u → y ≡ v → s ≡ (x + y) % Q → t ≡ (s + c) % Q → (f + neg t) % Q ≡ (f + neg (u + v + c)) % Q

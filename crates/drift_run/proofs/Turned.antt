@@ -5,8 +5,13 @@ use mathlib.Core.List.{List}
 use Prim.Native.Nat.{ℕ, ◌+◌, ◌*◌, ◌%◌}
 use native.Mathlib.Nat.{mod-add-mod}
 use lib.ListN.{length}
+use Rattle.std.specs.Prelude.{Result, Ok}
 use Rattle.ring.specs.Word.{Q}
 use Rattle.params.specs.declared.Params.{Params}
+use Rattle.params.specs.declared.refusal.Refusal.{Refusal}
+use Rattle.params.specs.Ranges.{params_number}
+use Rattle.params.specs.Refusal.{answer, given}
+use Rattle.params.proofs.Answers.{given_done}
 use Rattle.tlwe.specs.declared.Level.TheVariants.{Zero}
 use Rattle.tlwe.specs.Key.{keyed_number}
 use Rattle.tlwe.proofs.Refusals.{keyed_done}
@@ -16,22 +21,28 @@ use Rattle.gate_sums.specs.Sum.{summed}
 use Rattle.gate_sums.proofs.Sums.{summed-length}
 use Rattle.drift.specs.PrivateWords.{rounding_word, brought_word}
 use Rattle.drift.specs.PrivateShort.{place_of}
+use Rattle.turns.specs.declared.Rounded.{Rounded}
 use Rattle.turns.specs.Front.{front_place, front_rounding}
 use Rattle.turns.proofs.Words.{place_told, rounding_told}
 use Rattle.drift_run.specs.Private.{Secret}
 
-module _ (p : Params) (kind : Kind) (key a b : List ℕ) (s : Secret p key) where
+module _ (p : Params) (kind : Kind) (key a b : List ℕ) (z : params_number p ≡ 0) (s : Secret p key) where
+  abbrev sum : List ℕ
+  sum = summed p kind a b
+
   -- the sum is not refused
-  sum_passes : keyed_number p Zero (length (summed p kind a b)) key ≡ 0
-  sum_passes = keyed_done p Zero (length (summed p kind a b)) key s.good (summed-length p kind a b) s.long s.bits
+  sum_passes : keyed_number p Zero (length sum) key ≡ 0
+  sum_passes = keyed_done p Zero (length sum) key z (summed-length p kind a b) s.long s.bits
 
-  -- so its place is told, whatever holds the sum
-  pub place_of_sum : {place : ℕ} {src : List ℕ} → src ≡ summed p kind a b → place ≡ front_place p key src → place ≡ place_of p key (summed p kind a b)
-  place_of_sum e h = h ∙ ap (front_place p key) e ∙ place_told p key (summed p kind a b) sum_passes
+  abbrev told : List ℕ → Result Rounded Refusal
+  told src = given (answer (keyed_number p Zero (length src) key)) (record { place = front_place p key src; rounding = record { 0 = front_rounding p key src } })
 
-  -- and what rounding brings in
-  pub rounding_of_sum : {rounding : ℕ} {src : List ℕ} → src ≡ summed p kind a b → rounding ≡ front_rounding p key src → rounding ≡ rounding_word p key (summed p kind a b)
-  rounding_of_sum e h = h ∙ ap (front_rounding p key) e ∙ rounding_told p key (summed p kind a b) sum_passes
+  -- so its place and what rounding brings in are told, whatever holds the sum
+  pub sum_told : {src : List ℕ} → src ≡ sum → told src ≡ Ok (record { place = place_of p key sum; rounding = record { 0 = rounding_word p key sum } })
+  sum_told e =
+      let place = place_told p key sum in
+      let rounding = rounding_told p key sum in
+      ap told e ∙ given_done _ _ sum_passes ∙ (λ i. Ok (record { place = place i; rounding = record { 0 = rounding i } }))
 
 -- what is brought in
 pub brought_is : (p : Params) (kind : Kind) (key src : List ℕ) (da db : ℕ) {own rounding brought : ℕ} → own ≡ ((weights_of kind).a * da + (weights_of kind).b * db) % Q

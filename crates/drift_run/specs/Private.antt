@@ -14,9 +14,8 @@ use Rattle.drift_run.specs.declared.by_way.Drifted.{Drifted}
 abbrev pub drifted : ℕ → List ℕ → Drifted
 drifted drift brought = record { drift = drift; inside = all_words brought; worst = worst_words 0 brought }
 
--- What is known of the parameters and the level-0 secret key.
+-- What is known of the level-0 secret key.
 pub record Secret (p : Params) (key : List ℕ) : Type 0 where
-  pub good : params_number p ≡ 0
   pub long : length key ≡ p.n
   pub bits : binary key ≡ true
 
@@ -31,18 +30,27 @@ pub record Passing (p : Params) (key bs : List ℕ) (lw ld : ℕ) : Type 0 where
   pub finished : Finished p key bs lw
   pub drifts_length : ld ≡ wires bs
 
--- What holds of one gate of a drift run that is not refused.
-pub record DriftGateGood (p : Params) (lk ls : ℕ) (key bs : List ℕ) (lw ld : ℕ) : Type 0 where
+-- What holds of one gate of a drift run that is not refused, beside its parameters' ranges.
+pub record DriftGate (p : Params) (lk ls : ℕ) (key bs : List ℕ) (lw ld : ℕ) : Type 0 where
   pub passing : Passing p key bs lw ld
   pub switching : lk ≡ switching_words p
   pub bootstrapping : ls ≡ bootstrapping_words p
 
--- What holds of a drift run that is not refused.
-pub record DriftRunGood (p : Params) (lk ls : ℕ) (key bs : List ℕ) (li lp lw lo ld : ℕ) : Type 0 where
-  pub gate : DriftGateGood p lk ls key bs lw ld
+-- What holds of a drift run that is not refused, beside its parameters' ranges.
+pub record DriftRun (p : Params) (lk ls : ℕ) (key bs : List ℕ) (li lp lw lo ld : ℕ) : Type 0 where
+  pub gate : DriftGate p lk ls key bs lw ld
   pub ins_length : li ≡ inputs bs * (p.n + 1)
   pub plain_length : lp ≡ inputs bs
   pub outs_length : lo ≡ outputs bs * (p.n + 1)
+
+-- Either with the ranges.
+pub record DriftGateGood (p : Params) (lk ls : ℕ) (key bs : List ℕ) (lw ld : ℕ) : Type 0 where
+  pub good : params_number p ≡ 0
+  pub lent : DriftGate p lk ls key bs lw ld
+
+pub record DriftRunGood (p : Params) (lk ls : ℕ) (key bs : List ℕ) (li lp lw lo ld : ℕ) : Type 0 where
+  pub good : params_number p ≡ 0
+  pub lent : DriftRun p lk ls key bs li lp lw lo ld
 
 -- Gate g's drift, worked out of the finished wires ws, in its place among the drifts ds.
 unfoldable pub put_short : Params → List ℕ → List ℕ → List ℕ → List ℕ → ℕ → List ℕ

@@ -14,6 +14,7 @@ use Rattle.ways.specs.Ciphers.{cipher_at}
 use Rattle.encrypted_run.specs.Run.{ciphers_of, output_ciphers, wires_before, stepped}
 use Rattle.drift.specs.Whole.{fresh_drift}
 use Rattle.drift.specs.Circuit.{gate_drift_on, gate_brought_on, drifts_of, all_of, worst_of, all_inside}
+use Rattle.drift_run.specs.declared.Brought.{Brought}
 use Rattle.drift_run.specs.Refusals.{drift_answer, drift_gate_answer}
 use Rattle.ring.specs.Bit.{truth}
 use Rattle.ring.specs.Phase.{phase_of}
@@ -70,6 +71,10 @@ drift_gate_number p ksk bsk key z bs ws ds = (drift_gate_answer p (length ksk) (
 -- What is brought into the rotations of gate g; nothing where the circuit has no gate g.
 unfoldable pub gate_brought : Params → List ℕ → List ℕ → ℕ → List ℕ → List ℕ → List ℤ
 gate_brought p key bs g ws ds = cond (ltb g (gates bs)) (gate_brought_on p key bs (wires_before p bs g ws) (drifts_before bs g ds) g) []
+
+-- What a call hands back of it: is all of it inside, and the one that is largest in absolute value, as a word.
+abbrev pub brought_of : List ℤ → Brought
+brought_of brought = record { inside = all_of brought; worst = record { 0 = word_of (worst_of brought) } }
 
 -- Is all of it inside? False where the call is refused.
 unfoldable pub gate_inside : Params → List ℕ → List ℕ → List ℕ → List ℕ → List ℕ → ℕ → List ℕ → List ℕ → Bool

@@ -7,28 +7,25 @@ ghost use Rattle.encrypted_run.specs.Run.{ciphers_of, output_ciphers, stepped};
 ghost use Rattle.drift.specs.PrivateWords.{fresh_word};
 ghost use Rattle.drift.specs.PrivateCircuit.{gate_brought_words, fresh_words, all_words, output_words};
 ghost use Rattle.drift.specs.PrivateShort.{short_gate, short_to, short_brought_to};
-ghost use Rattle.drift_run.specs.Private.{Secret, Finished, Passing, DriftGateGood, DriftRunGood, drifted, put_short, told_short, short_drifts, short_inside};
+ghost use Rattle.drift_run.specs.Private.{Secret, Finished, Passing, DriftGate, DriftRun, drifted, put_short, told_short, short_drifts, short_inside};
 ghost use Rattle.ring.specs.Bit.{truth};
 
-use crate::by_way::{Drifted, both, way_drift};
+use crate::by_way::{Drifted, gathered, way_drift};
 use crate::rotations::{bit_word, phase};
 use drift_size::is_inside;
-use params::Params;
+use params::Checked;
 use ways::ciphertext;
 
 // The drift of wire w among these; 0 for any other.
 fn drift_at(drifts: &[u32], w: usize) -> u32
     ensures { result ≡ at drifts.now w }
 {
-    if w < drifts.len() {
-        return drifts[w];
-    }
-    0
+    drifts.get(w).copied().unwrap_or(0)
 }
 
 // What is told of gate g, before being the drifts of the wires before it.
 fn gate_told(
-    p: Params,
+    p: Checked,
     key: &[u32],
     bytes: &[u8],
     g: usize,
@@ -48,10 +45,10 @@ fn gate_told(
         p,
         way,
         key,
-        ciphertext(p, wires, x),
-        ciphertext(p, wires, y),
-        ciphertext(p, wires, z),
-        ciphertext(p, wires, own),
+        ciphertext(p.params, wires, x),
+        ciphertext(p.params, wires, y),
+        ciphertext(p.params, wires, z),
+        ciphertext(p.params, wires, own),
         drift_at(before, x),
         drift_at(before, y),
         drift_at(before, z),
@@ -60,7 +57,7 @@ fn gate_told(
 
 // Gate g's drift into its place.
 fn put_drift(
-    p: Params,
+    p: Checked,
     key: &[u32],
     bytes: &[u8],
     g: usize,
@@ -79,25 +76,22 @@ fn put_drift(
 }
 
 // Every gate's drift, one after the other; are all that is brought into their rotations inside?
-fn gates_into(p: Params, key: &[u32], bytes: &[u8], wires: &[u32], drifts: &mut [u32]) -> bool
+fn gates_into(p: Checked, key: &[u32], bytes: &[u8], wires: &[u32], drifts: &mut [u32]) -> bool
     requires { Passing p key.now bytes.now (length wires.now) (length drifts.old) }
     ensures told { result ≡ all_words (short_brought_to p key.now bytes.now wires.now (take (inputs bytes.now) drifts.old) (gates bytes.now)) }
     ensures written { drifts.new ≡ short_to p key.now bytes.now wires.now (take (inputs bytes.now) drifts.old) (gates bytes.now) }
 {
     let shape = circuit::counts(bytes);
-    let n = shape.gates;
     let mut inside = true;
-    let mut g = 0;
-    while g < n {
+    for g in 0..shape.gates {
         let told = put_drift(p, key, bytes, g, wires, drifts);
-        inside = both(inside, told.inside);
-        g += 1;
+        inside &= told.inside;
     }
     inside
 }
 
 // The fresh drift of a ciphertext.
-fn fresh(p: Params, key: &[u32], c: &[u32], bit: bool) -> u32
+fn fresh(p: Checked, key: &[u32], c: &[u32], bit: bool) -> u32
     requires { Secret p key.now × (length c.now ≡ p.n + 1) }
     ensures { result ≡ fresh_word p key.now c.now bit }
 {
@@ -105,15 +99,13 @@ fn fresh(p: Params, key: &[u32], c: &[u32], bit: bool) -> u32
 }
 
 // The inputs' fresh drifts, in front of the others.
-fn inputs_into(p: Params, key: &[u32], ins: &[u32], plain: &[u8], drifts: &mut [u32])
+fn inputs_into(p: Checked, key: &[u32], ins: &[u32], plain: &[u8], drifts: &mut [u32])
     requires { Secret p key.now × (length ins.now ≡ length plain.now * (p.n + 1)) × (length plain.now ≤ length drifts.old) }
     ensures { drifts.new ≡ fresh_words p key.now ins.now plain.now (length plain.now) ++ drop (length plain.now) drifts.old }
 {
-    let n = plain.len();
-    let mut i = 0;
-    while i < n {
-        drifts[i] = fresh(p, key, ciphertext(p, ins, i), plain[i] != 0);
-        i += 1;
+    let params = p.params;
+    for (i, bit) in plain.iter().enumerate() {
+        drifts[i] = fresh(p, key, ciphertext(params, ins, i), *bit != 0);
     }
 }
 
@@ -123,20 +115,17 @@ fn outputs_inside(bytes: &[u8], drifts: &[u32]) -> bool
     ensures { result ≡ all_words (output_words bytes.now drifts.now) }
 {
     let shape = circuit::counts(bytes);
-    let n = shape.outputs;
     let mut inside = true;
-    let mut o = 0;
-    while o < n {
+    for o in 0..shape.outputs {
         let drift = drift_at(drifts, circuit::output_at(bytes, o));
-        inside = both(inside, is_inside(drift));
-        o += 1;
+        inside &= is_inside(drift);
     }
     inside
 }
 
 // A pass over finished wires: every wire's drift; are all that demand 3 names inside?
 fn pass(
-    p: Params,
+    p: Checked,
     key: &[u32],
     bytes: &[u8],
     ins: &[u32],
@@ -150,12 +139,12 @@ fn pass(
 {
     inputs_into(p, key, ins, plain, drifts);
     let turned = gates_into(p, key, bytes, wires, drifts);
-    both(turned, outputs_inside(bytes, drifts))
+    turned && outputs_inside(bytes, drifts)
 }
 
 // The drift run of a circuit that is not refused.
 pub(crate) fn run_into(
-    p: Params,
+    p: Checked,
     ksk: &[u32],
     bsk: &[u32],
     key: &[u32],
@@ -166,19 +155,19 @@ pub(crate) fn run_into(
     out: &mut [u32],
     drifts: &mut [u32],
 ) -> bool
-    requires { DriftRunGood p (length ksk.now) (length bsk.now) key.now bytes.now (length ins.now) (length plain.now) (length wires.old) (length out.old) (length drifts.old) }
+    requires { DriftRun p (length ksk.now) (length bsk.now) key.now bytes.now (length ins.now) (length plain.now) (length wires.old) (length out.old) (length drifts.old) }
     ensures told { result ≡ short_inside p key.now bytes.now ins.now plain.now (ciphers_of p ksk.now bsk.now bytes.now ins.now) }
     ensures held { wires.new ≡ ciphers_of p ksk.now bsk.now bytes.now ins.now }
     ensures written { out.new ≡ output_ciphers p bytes.now (ciphers_of p ksk.now bsk.now bytes.now ins.now) }
     ensures drifted { drifts.new ≡ short_drifts p key.now bytes.now ins.now plain.now (ciphers_of p ksk.now bsk.now bytes.now ins.now) }
 {
-    encrypted_run::run_encrypted(p, ksk, bsk, bytes, ins, wires, out);
+    encrypted_run::run_encrypted(p.params, ksk, bsk, bytes, ins, wires, out).unwrap();
     pass(p, key, bytes, ins, plain, wires, drifts)
 }
 
 // Gate g of a drift run: its ciphertext, and then its drift.
 fn one(
-    p: Params,
+    p: Checked,
     ksk: &[u32],
     bsk: &[u32],
     key: &[u32],
@@ -187,18 +176,18 @@ fn one(
     wires: &mut [u32],
     drifts: &mut [u32],
 ) -> Drifted
-    requires { DriftGateGood p (length ksk.now) (length bsk.now) key.now bytes.now (length wires.old) (length drifts.old) × (g < gates bytes.now) }
+    requires { DriftGate p (length ksk.now) (length bsk.now) key.now bytes.now (length wires.old) (length drifts.old) × (g < gates bytes.now) }
     ensures told { result ≡ told_short p key.now bytes.now (stepped p ksk.now bsk.now bytes.now g wires.old) drifts.old g }
     ensures held { wires.new ≡ stepped p ksk.now bsk.now bytes.now g wires.old }
     ensures written { drifts.new ≡ put_short p key.now bytes.now (stepped p ksk.now bsk.now bytes.now g wires.old) drifts.old g }
 {
-    encrypted_run::run_gate(p, ksk, bsk, bytes, g, wires);
+    encrypted_run::run_gate(p.params, ksk, bsk, bytes, g, wires).unwrap();
     put_drift(p, key, bytes, g, wires, drifts)
 }
 
 // The same where there is a gate g.
 pub(crate) fn one_or_none(
-    p: Params,
+    p: Checked,
     ksk: &[u32],
     bsk: &[u32],
     key: &[u32],
@@ -207,18 +196,13 @@ pub(crate) fn one_or_none(
     wires: &mut [u32],
     drifts: &mut [u32],
 ) -> Drifted
-    requires { DriftGateGood p (length ksk.now) (length bsk.now) key.now bytes.now (length wires.old) (length drifts.old) }
+    requires { DriftGate p (length ksk.now) (length bsk.now) key.now bytes.now (length wires.old) (length drifts.old) }
     ensures told { result ≡ cond (ltb g (gates bytes.now)) (told_short p key.now bytes.now (stepped p ksk.now bsk.now bytes.now g wires.old) drifts.old g) (drifted 0 []) }
     ensures held { wires.new ≡ cond (ltb g (gates bytes.now)) (stepped p ksk.now bsk.now bytes.now g wires.old) wires.old }
     ensures written { drifts.new ≡ cond (ltb g (gates bytes.now)) (put_short p key.now bytes.now (stepped p ksk.now bsk.now bytes.now g wires.old) drifts.old g) drifts.old }
 {
-    let shape = circuit::counts(bytes);
-    if g < shape.gates {
-        return one(p, ksk, bsk, key, bytes, g, wires, drifts);
+    if g >= circuit::counts(bytes).gates {
+        return gathered(0, &[]);
     }
-    Drifted {
-        drift: 0,
-        inside: true,
-        worst: 0,
-    }
+    one(p, ksk, bsk, key, bytes, g, wires, drifts)
 }

@@ -9,9 +9,9 @@ ghost use Rattle.drift_run.specs.Private.{Secret};
 ghost use Rattle.ring.specs.Phase.{phase_of};
 
 use gate_sums::{Kind, Weights};
-use params::Params;
+use params::Checked;
 use tlwe::Level;
-use turns::FrontTold;
+use turns::Rounded;
 
 // The side of a rotation, and the drift brought into it.
 #[derive(Clone, Copy)]
@@ -21,6 +21,7 @@ pub(crate) struct Turned {
 }
 
 // ±0.125 of a turn.
+#[tactic(auto, unfolding(ring::specs::Word::Q))]
 pub(crate) fn bit_word(bit: bool) -> u32
     ensures { result ≡ bit_word bit }
 {
@@ -35,28 +36,28 @@ fn weighted(w: Weights, x: u32, y: u32) -> u32
 }
 
 // The phase of a ciphertext under the secret key.
-pub(crate) fn phase(p: Params, key: &[u32], c: &[u32]) -> u32
+pub(crate) fn phase(p: Checked, key: &[u32], c: &[u32]) -> u32
     requires { Secret p key.now × (length c.now ≡ p.n + 1) }
     ensures { result ≡ phase_of p.n key.now c.now }
 {
-    let found = tlwe::keys::phase_of(p, Level::Zero, c, key);
-    let value = found.value;
-    value.0
+    tlwe::keys::phase_of(p.params, Level::Zero, c, key)
+        .unwrap()
+        .0
 }
 
 // What the turns of the rotation of a kind's sum of a and b tell, sum being scratch for it.
-fn front_of(p: Params, kind: Kind, key: &[u32], a: &[u32], b: &[u32], sum: &mut [u32]) -> FrontTold
+fn front_of(p: Checked, kind: Kind, key: &[u32], a: &[u32], b: &[u32], sum: &mut [u32]) -> Rounded
     requires { Secret p key.now × (length a.now ≡ p.n + 1) × (length b.now ≡ p.n + 1) × (length sum.old ≡ p.n + 1) }
     ensures place { result.place ≡ place_of p key.now (summed p kind a.now b.now) }
     ensures rounding { result.rounding.0 ≡ rounding_word p key.now (summed p kind a.now b.now) }
 {
-    gate_sums::sum(p, kind, a, b, sum);
-    turns::front(p, key, sum)
+    gate_sums::sum(p.params, kind, a, b, sum).unwrap();
+    turns::front(p.params, key, sum).unwrap()
 }
 
 // The rotation of a kind's sum of a and b, whose drifts are da and db. Scratch: 4.4 KB.
 pub(crate) fn rotation(
-    p: Params,
+    p: Checked,
     kind: Kind,
     key: &[u32],
     a: &[u32],
@@ -68,13 +69,13 @@ pub(crate) fn rotation(
     ensures side { result.side ≡ side_of p key.now (summed p kind a.now b.now) }
     ensures brought { result.brought ≡ brought_word p kind key.now (summed p kind a.now b.now) da db }
 {
-    let words = a.len();
+    let words = p.sizes.level0;
+    let size = p.sizes.size;
     let mut sum = [0u32; 1101];
     let front = front_of(p, kind, key, a, b, &mut sum[..words]);
     let rounding = front.rounding;
-    let brought = ring::add(weighted(gate_sums::weights_of(kind), da, db), rounding.0);
     Turned {
-        side: front.place < ring::power(p.nbit),
-        brought,
+        side: (front.place as usize) < size,
+        brought: ring::add(weighted(gate_sums::weights_of(kind), da, db), rounding.0),
     }
 }

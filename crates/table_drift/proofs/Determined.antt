@@ -6,8 +6,6 @@ use Rattle.table_drift.specs.contracts.lookup_drift as lookup_drift_c
 
 pub lookup_drift_determined : Determined lookup_drift_c.ended lookup_drift_call.Reads.Learnt
 lookup_drift_determined κs a x y v w p q =
-    let said = coincide p.0 q.0 in
-    let told = coincide p.1.0 q.1.0 in
-    let written = coincide p.1.1.0 q.1.1.0 in
-    let drifted = coincide p.1.1.1.0 q.1.1.1.0 in
-    (λ i. record { answer = said i; inside = told i }, same_rest 10 (λ i. (written i, (drifted i, tt))))
+    let written = coincide p.1.0 q.1.0 in
+    let drifted = coincide p.1.1.0 q.1.1.0 in
+    (coincide p.0 q.0, same_rest 10 (λ i. (written i, (drifted i, tt))))

@@ -10,13 +10,13 @@ use Rattle.tlwe.specs.Plain.{modulus_number, message_word}
 use Rattle.drift_size.specs.Size.{magnitude}
 use Rattle.drift.specs.PrivateWords.{rounding_word}
 use Rattle.drift.specs.PrivateShort.{front_word}
-use Rattle.tables.specs.Private.{Fitting}
-use Rattle.tables.specs.Table.{table_pair, looked_up}
+use Rattle.tables.specs.Table.{is_table, table_pair, looked_up}
 use Rattle.table_drift.specs.Lookup.{margin_of}
 
--- What holds of a call that is not refused.
+-- What holds of a call that is not refused, beside its parameters' ranges.
 pub record LookupDriftGood (p : Params) (m lf results lk ls : ℕ) (key : List ℕ) (lc lo ld : ℕ) : Type 0 where
-  pub table : Fitting p m lf
+  pub words : lf ≡ m
+  pub fits : is_table (size p) m ≡ true
   pub switching : lk ≡ switching_words p
   pub bootstrapping : ls ≡ bootstrapping_words p
   pub long : length key ≡ p.n

@@ -1,16 +1,14 @@
 // The drifts of a lookup that is not refused.
-ghost use Rattle.std.specs.Prelude.{◌≡◌, true, false, cond, [], ◌∷◌, ◌+◌, ◌*◌, ◌/◌, ◌<◌, length};
+ghost use Rattle.std.specs.Prelude.{◌≡◌, true, [], ◌∷◌, ◌+◌, ◌*◌, ◌/◌, ◌<◌, length};
 ghost use Rattle.ring.specs.Phase.{phase_of};
-ghost use Rattle.params.specs.Ranges.{params_number};
 ghost use Rattle.tlwe.specs.Key.{binary};
 ghost use Rattle.tlwe.specs.Plain.{modulus_number, message_word};
-ghost use Rattle.tables.specs.Private.{Fitting};
-ghost use Rattle.tables.specs.Table.{table_pair, looked_up};
+ghost use Rattle.tables.specs.Table.{is_table, table_pair, looked_up};
 ghost use Rattle.params.specs.Sizes.{size};
 ghost use Rattle.table_drift.specs.Lookup.{margin_of};
 ghost use Rattle.table_drift.specs.Private.{LookupDriftGood, brought_short, lookup_short, within_word, both_within, front_at};
 
-use params::Params;
+use params::Checked;
 use tlwe::Level;
 
 // 2^31/(2M), half a message's step.
@@ -39,54 +37,52 @@ fn within(modulus: u64, drift: u32) -> bool
 }
 
 // Are both?
+#[tactic(auto, unfolding(crate::specs::Private::both_within))]
 fn both_within(modulus: u64, results: u64, brought: u32, drift: u32) -> bool
     requires { (modulus_number modulus ≡ 0) × (modulus_number results ≡ 0) }
     ensures { result ≡ both_within modulus results brought drift }
 {
-    if within(modulus, brought) {
-        return within(results, drift);
-    }
-    false
+    within(modulus, brought) && within(results, drift)
 }
 
 // The phase of a ciphertext under the secret key.
-fn phase(p: Params, key: &[u32], c: &[u32]) -> u32
-    requires { (params_number p ≡ 0) × (length key.now ≡ p.n) × (length c.now ≡ p.n + 1) × (binary key.now ≡ true) }
+fn phase(p: Checked, key: &[u32], c: &[u32]) -> u32
+    requires { (length key.now ≡ p.n) × (length c.now ≡ p.n + 1) × (binary key.now ≡ true) }
     ensures { result ≡ phase_of p.n key.now c.now }
 {
-    let found = tlwe::keys::phase_of(p, Level::Zero, c, key);
-    let value = found.value;
-    value.0
+    tlwe::keys::phase_of(p.params, Level::Zero, c, key)
+        .unwrap()
+        .0
 }
 
 // What place, below 2N, brings to the front of the table's vector, worked out in the scratch (va, vb).
 fn front_on(
-    p: Params,
+    p: Checked,
     modulus: u64,
     table: &[u32],
     place: u32,
     va: &mut [u32],
     vb: &mut [u32],
 ) -> u32
-    requires { Fitting p modulus (length table.now) × (length va.old ≡ size p) × (length vb.old ≡ size p) × (place < size p + size p) }
+    requires { (length table.now ≡ modulus) × (is_table (size p) modulus ≡ true) × (length va.old ≡ size p) × (length vb.old ≡ size p) × (place < size p + size p) }
     ensures { result ≡ front_at p (table_pair p modulus table.now) place }
 {
-    tables::table_testvec(p, modulus, table, va, vb);
+    tables::table_testvec(p.params, modulus, table, va, vb).unwrap();
     let n = vb.len();
     let at = place as usize;
     if at < n {
-        return vb[at];
+        vb[at]
+    } else {
+        ring::negated(vb[at - n])
     }
-    ring::negated(vb[at - n])
 }
 
 // The same with its scratch.
-fn front_word(p: Params, modulus: u64, table: &[u32], place: u32) -> u32
-    requires { Fitting p modulus (length table.now) × (place < size p + size p) }
+fn front_word(p: Checked, modulus: u64, table: &[u32], place: u32) -> u32
+    requires { (length table.now ≡ modulus) × (is_table (size p) modulus ≡ true) × (place < size p + size p) }
     ensures { result ≡ front_at p (table_pair p modulus table.now) place }
 {
-    let s = params::sizes_of(p);
-    let n = s.size;
+    let n = p.sizes.size;
     let mut va = [0u32; 1024];
     let mut vb = [0u32; 1024];
     front_on(p, modulus, table, place, &mut va[..n], &mut vb[..n])
@@ -94,7 +90,7 @@ fn front_word(p: Params, modulus: u64, table: &[u32], place: u32) -> u32
 
 // The lookup into out, its two drifts into drifts; are both inside?
 pub(crate) fn told_into(
-    p: Params,
+    p: Checked,
     modulus: u64,
     table: &[u32],
     results: u64,
@@ -111,8 +107,8 @@ pub(crate) fn told_into(
     ensures written { out.new ≡ looked_up p modulus table.now ksk.now bsk.now c.now }
     ensures drifted { drifts.new ≡ brought_short p key.now c.now value modulus ∷ lookup_short p key.now ksk.now bsk.now modulus table.now c.now ∷ [] }
 {
-    tables::lookup(p, modulus, table, c, ksk, bsk, out);
-    let front = turns::front(p, key, c);
+    tables::lookup(p.params, modulus, table, c, ksk, bsk, out).unwrap();
+    let front = turns::front(p.params, key, c).unwrap();
     let rounding = front.rounding;
     let own = ring::sub(phase(p, key, c), message_word(value, modulus));
     let brought = ring::add(own, rounding.0);

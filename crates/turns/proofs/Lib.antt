@@ -1,3 +1,4 @@
+pub mod Given
 pub mod Steps
 pub mod Words
 pub mod Determined

@@ -1,4 +1,4 @@
--- What a call tells that is not refused, in the words with which `drift` reckons: by the refusal table, and since the word of a whole number is settled by the words of its parts.
+-- What a call tells, in the words with which `drift` reckons, since the word of a whole number is settled by the words of its parts; and what holds of a call that is not refused.
 -- Assumes nothing.
 use mathlib.Core.Path.{◌≡◌, refl, ◌∙◌}
 use mathlib.Core.List.{List}
@@ -8,7 +8,6 @@ use native.Mathlib.Nat.{mod-mod}
 use Rattle.ring.specs.Word.{Q}
 use Rattle.ring.specs.Centre.{word_of}
 use Rattle.params.specs.declared.Params.{Params}
-use Rattle.params.proofs.Answers.{when_done}
 use Rattle.refusals.proofs.Table.{good}
 use Rattle.tlwe.specs.declared.Level.TheVariants.{Zero}
 use Rattle.tlwe.specs.Key.{keyed_checks, keyed_number}
@@ -26,18 +25,17 @@ module _ (p : Params) (key src : List ℕ) where
   unfolding rounding_word
   rounding_word_lem = is_only (is_rounding p key src) ∙ mod-mod _ Q
 
-  module _ (e : keyed_number p Zero (length src) key ≡ 0) where
-    -- lengths and parameters fit where the call is not refused
-    pub fitting : Fits p key src
-    unfolding keyed_number
-    fitting = let f = good p (keyed_checks p Zero (length src) key) refl e in record { good = f.0; long = f.1.1.0; words = f.1.0 }
+  -- so it is what the code tells
+  pub rounding_told : front_rounding p key src ≡ rounding_word p key src
+  unfolding front_rounding
+  rounding_told = rounding_word_lem
 
-    -- then it tells the place
-    pub place_told : front_place p key src ≡ place_of p key src
-    unfolding front_place
-    place_told = when_done _ _ _ e
+  -- and so is the place
+  pub place_told : front_place p key src ≡ place_of p key src
+  unfolding front_place
+  place_told = refl
 
-    -- and what rounding brings in
-    pub rounding_told : front_rounding p key src ≡ rounding_word p key src
-    unfolding front_rounding
-    rounding_told = when_done _ _ _ e ∙ rounding_word_lem
+  -- lengths fit where the call is not refused
+  pub fitting : keyed_number p Zero (length src) key ≡ 0 → Fits p key src
+  unfolding keyed_number
+  fitting e = let f = good p (keyed_checks p Zero (length src) key) refl e in record { long = f.1.1.0; words = f.1.0 }

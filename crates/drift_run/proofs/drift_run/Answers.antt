@@ -1,101 +1,81 @@
 -- `drift_run::drift_run` meets its contract: a refusal leaves all as it was; else the run and its drifts, as the definitions in whole numbers have them, and demand 3.
 -- Assumes nothing.
-use mathlib.Core.Path.{◌≡◌, sym, ap, ◌∙◌}
+use Rattle.std.proofs.Common.{◌≡◌, sym, ap, ◌∙◌}
 use lib.ListN.{length}
-use Rattle.params.specs.declared.Answer.{Answer}
-use Rattle.params.proofs.Answers.{kept, done}
+use Rattle.std.specs.Prelude.{Ok}
+use Rattle.params.proofs.Answers.{kept, done, given_ok, given_done}
 use Rattle.params.proofs.Ranges.{in_range}
-use Rattle.drift_run.specs.Refusals.{drift_answer}
-use Rattle.drift_run.specs.Run.{inside_after, drift_wires_after, drift_outputs_after, drifts_after}
+use Rattle.turns.proofs.Given.{number_refused, ok_same}
+use Rattle.drift_run.specs.Run.{drift_wires_after, drift_outputs_after, drifts_after}
 use Rattle.drift_run.proofs.Checks.{run_good}
 use Rattle.drift_run.proofs.Results.{drifts_are, inside_is, right_is}
 use Rattle.drift_run.proofs.drift_run.Goals as goal
 
-pub run_into-inside-requires : goal.run_into-inside-requires
-run_into-inside-requires c =
-    let g = c.args in
-    run_good g.p (length g.ksk.now) (length g.bsk.now) g.key.now g.z.now g.bytes.now (length g.ins.now) (length g.plain.now) (length g.wires.now) (length g.out.now) (length g.drifts.now) (sym (ap (λ (s : Answer). s.number) c.run_answer-said.ensures) ∙ c.if-said-ne0.false)
+pub returns-in_err-c-clause-held : goal.returns-in_err-c-clause-held
+unfolding drift_wires_after
+returns-in_err-c-clause-held c = kept _ _ _ (number_refused _ c.args.p (sym c.in_err-c.ensures))
 
-pub returns-then-said-ne0-clause-told : goal.returns-then-said-ne0-clause-told
-unfolding inside_after drift_wires_after drift_outputs_after drifts_after
-returns-then-said-ne0-clause-told c =
-    let g = c.args in
-    let e = c.run_answer-said.ensures in
-    let refused : (drift_answer g.p (length g.ksk.now) (length g.bsk.now) g.key.now g.z.now g.bytes.now (length g.ins.now) (length g.plain.now) (length g.wires.now) (length g.out.now) (length g.drifts.now)).number ≡ 0 → ⊥ = λ z. c.if-said-ne0.true (ap (λ (s : Answer). s.number) e ∙ z) in
-    kept _ _ _ refused
+pub returns-in_err-c-clause-written : goal.returns-in_err-c-clause-written
+unfolding drift_outputs_after
+returns-in_err-c-clause-written c = kept _ _ _ (number_refused _ c.args.p (sym c.in_err-c.ensures))
 
-pub returns-then-said-ne0-clause-held : goal.returns-then-said-ne0-clause-held
-unfolding inside_after drift_wires_after drift_outputs_after drifts_after
-returns-then-said-ne0-clause-held c =
-    let g = c.args in
-    let e = c.run_answer-said.ensures in
-    let refused : (drift_answer g.p (length g.ksk.now) (length g.bsk.now) g.key.now g.z.now g.bytes.now (length g.ins.now) (length g.plain.now) (length g.wires.now) (length g.out.now) (length g.drifts.now)).number ≡ 0 → ⊥ = λ z. c.if-said-ne0.true (ap (λ (s : Answer). s.number) e ∙ z) in
-    kept _ _ _ refused
+pub returns-in_err-c-clause-drifted : goal.returns-in_err-c-clause-drifted
+unfolding drifts_after
+returns-in_err-c-clause-drifted c = kept _ _ _ (number_refused _ c.args.p (sym c.in_err-c.ensures))
 
-pub returns-then-said-ne0-clause-written : goal.returns-then-said-ne0-clause-written
-unfolding inside_after drift_wires_after drift_outputs_after drifts_after
-returns-then-said-ne0-clause-written c =
+pub run_into-requires : goal.run_into-requires
+run_into-requires c =
     let g = c.args in
-    let e = c.run_answer-said.ensures in
-    let refused : (drift_answer g.p (length g.ksk.now) (length g.bsk.now) g.key.now g.z.now g.bytes.now (length g.ins.now) (length g.plain.now) (length g.wires.now) (length g.out.now) (length g.drifts.now)).number ≡ 0 → ⊥ = λ z. c.if-said-ne0.true (ap (λ (s : Answer). s.number) e ∙ z) in
-    kept _ _ _ refused
+    let z = given_ok _ _ (sym c.in_ok-c.ensures) in
+    let same : c.in_ok-c.c ≡ g.p = ok_same (c.in_ok-c.ensures ∙ given_done _ _ z) in
+    rw same (run_good g.p (length g.ksk.now) (length g.bsk.now) g.key.now g.z.now g.bytes.now (length g.ins.now) (length g.plain.now) (length g.wires.now) (length g.out.now) (length g.drifts.now) z).lent
 
-pub returns-then-said-ne0-clause-drifted : goal.returns-then-said-ne0-clause-drifted
-unfolding inside_after drift_wires_after drift_outputs_after drifts_after
-returns-then-said-ne0-clause-drifted c =
+pub returns-clause-said : goal.returns-clause-said
+returns-clause-said c =
     let g = c.args in
-    let e = c.run_answer-said.ensures in
-    let refused : (drift_answer g.p (length g.ksk.now) (length g.bsk.now) g.key.now g.z.now g.bytes.now (length g.ins.now) (length g.plain.now) (length g.wires.now) (length g.out.now) (length g.drifts.now)).number ≡ 0 → ⊥ = λ z. c.if-said-ne0.true (ap (λ (s : Answer). s.number) e ∙ z) in
-    kept _ _ _ refused
-
-pub returns-clause-told : goal.returns-clause-told
-unfolding inside_after drift_wires_after drift_outputs_after drifts_after
-returns-clause-told c =
-    let g = c.args in
-    let e = c.run_answer-said.ensures in
-    let z0 = sym (ap (λ (s : Answer). s.number) e) ∙ c.if-said-ne0.false in
-    let good = run_good g.p (length g.ksk.now) (length g.bsk.now) g.key.now g.z.now g.bytes.now (length g.ins.now) (length g.plain.now) (length g.wires.now) (length g.out.now) (length g.drifts.now) z0 in
-    let f = good.gate.passing.finished in
-    let r = in_range g.p f.secret.good in
-    let run = c.run_into-inside.ensures in
-    done _ _ _ z0 (run.told ∙ inside_is g.p r g.key.now g.z.now f.secret.bits g.ksk.now g.bsk.now g.bytes.now g.ins.now g.plain.now f.valid good.ins_length)
+    let z = given_ok _ _ (sym c.in_ok-c.ensures) in
+    let same : c.in_ok-c.c ≡ g.p = ok_same (c.in_ok-c.ensures ∙ given_done _ _ z) in
+    let good = run_good g.p (length g.ksk.now) (length g.bsk.now) g.key.now g.z.now g.bytes.now (length g.ins.now) (length g.plain.now) (length g.wires.now) (length g.out.now) (length g.drifts.now) z in
+    let f = good.lent.gate.passing.finished in
+    let r = in_range g.p good.good in
+    let run = rw same at c.run_into.ensures in
+    ap Ok (run.told ∙ inside_is g.p r g.key.now g.z.now f.secret.bits g.ksk.now g.bsk.now g.bytes.now g.ins.now g.plain.now f.valid good.lent.ins_length) ∙ sym (given_done _ _ z)
 
 pub returns-clause-held : goal.returns-clause-held
-unfolding inside_after drift_wires_after drift_outputs_after drifts_after
+unfolding drift_wires_after
 returns-clause-held c =
-    let e = c.run_answer-said.ensures in
-    let z0 = sym (ap (λ (s : Answer). s.number) e) ∙ c.if-said-ne0.false in
-    let run = c.run_into-inside.ensures in
-    done _ _ _ z0 run.held
+    let g = c.args in
+    let z = given_ok _ _ (sym c.in_ok-c.ensures) in
+    let same : c.in_ok-c.c ≡ g.p = ok_same (c.in_ok-c.ensures ∙ given_done _ _ z) in
+    done _ _ _ z (rw same at c.run_into.ensures.held)
 
 pub returns-clause-written : goal.returns-clause-written
-unfolding inside_after drift_wires_after drift_outputs_after drifts_after
+unfolding drift_outputs_after
 returns-clause-written c =
-    let e = c.run_answer-said.ensures in
-    let z0 = sym (ap (λ (s : Answer). s.number) e) ∙ c.if-said-ne0.false in
-    let run = c.run_into-inside.ensures in
-    done _ _ _ z0 run.written
+    let g = c.args in
+    let z = given_ok _ _ (sym c.in_ok-c.ensures) in
+    let same : c.in_ok-c.c ≡ g.p = ok_same (c.in_ok-c.ensures ∙ given_done _ _ z) in
+    done _ _ _ z (rw same at c.run_into.ensures.written)
 
 pub returns-clause-drifted : goal.returns-clause-drifted
-unfolding inside_after drift_wires_after drift_outputs_after drifts_after
+unfolding drifts_after
 returns-clause-drifted c =
     let g = c.args in
-    let e = c.run_answer-said.ensures in
-    let z0 = sym (ap (λ (s : Answer). s.number) e) ∙ c.if-said-ne0.false in
-    let good = run_good g.p (length g.ksk.now) (length g.bsk.now) g.key.now g.z.now g.bytes.now (length g.ins.now) (length g.plain.now) (length g.wires.now) (length g.out.now) (length g.drifts.now) z0 in
-    let f = good.gate.passing.finished in
-    let r = in_range g.p f.secret.good in
-    let run = c.run_into-inside.ensures in
-    done _ _ _ z0 (run.drifted ∙ drifts_are g.p r g.key.now g.z.now f.secret.bits g.ksk.now g.bsk.now g.bytes.now g.ins.now g.plain.now f.valid good.ins_length)
+    let z = given_ok _ _ (sym c.in_ok-c.ensures) in
+    let same : c.in_ok-c.c ≡ g.p = ok_same (c.in_ok-c.ensures ∙ given_done _ _ z) in
+    let good = run_good g.p (length g.ksk.now) (length g.bsk.now) g.key.now g.z.now g.bytes.now (length g.ins.now) (length g.plain.now) (length g.wires.now) (length g.out.now) (length g.drifts.now) z in
+    let f = good.lent.gate.passing.finished in
+    let r = in_range g.p good.good in
+    let run = rw same at c.run_into.ensures in
+    done _ _ _ z (run.drifted ∙ drifts_are g.p r g.key.now g.z.now f.secret.bits g.ksk.now g.bsk.now g.bytes.now g.ins.now g.plain.now f.valid good.lent.ins_length)
 
 pub returns-clause-right : goal.returns-clause-right
-unfolding inside_after drift_wires_after drift_outputs_after drifts_after
 returns-clause-right c =
     let g = c.args in
-    let e = c.run_answer-said.ensures in
-    let z0 = sym (ap (λ (s : Answer). s.number) e) ∙ c.if-said-ne0.false in
-    let good = run_good g.p (length g.ksk.now) (length g.bsk.now) g.key.now g.z.now g.bytes.now (length g.ins.now) (length g.plain.now) (length g.wires.now) (length g.out.now) (length g.drifts.now) z0 in
-    let f = good.gate.passing.finished in
-    let r = in_range g.p f.secret.good in
-    let run = c.run_into-inside.ensures in
-    right_is g.p r g.key.now g.z.now f.secret.bits g.ksk.now g.bsk.now g.bytes.now g.ins.now g.plain.now f.valid good.ins_length run.told run.written
+    let z = given_ok _ _ (sym c.in_ok-c.ensures) in
+    let same : c.in_ok-c.c ≡ g.p = ok_same (c.in_ok-c.ensures ∙ given_done _ _ z) in
+    let good = run_good g.p (length g.ksk.now) (length g.bsk.now) g.key.now g.z.now g.bytes.now (length g.ins.now) (length g.plain.now) (length g.wires.now) (length g.out.now) (length g.drifts.now) z in
+    let f = good.lent.gate.passing.finished in
+    let r = in_range g.p good.good in
+    let run = rw same at c.run_into.ensures in
+    λ h. right_is g.p r g.key.now g.z.now f.secret.bits g.ksk.now g.bsk.now g.bytes.now g.ins.now g.plain.now f.valid good.lent.ins_length run.told run.written (ok_same h)

@@ -1,82 +1,38 @@
 -- `turns::front` meets its contract: it refuses as the phase does, and the rounded phase less the phase is what rounding brings in.
 -- Assumes nothing.
-use mathlib.Core.Path.{◌≡◌, sym, ap, ◌∙◌}
+use Rattle.std.proofs.Common.{◌≡◌, refl, sym, ap, ◌∙◌}
 use Prim.Native.Nat.{◌<◌}
-use native.Mathlib.Omega.{arith}
-use lib.ListN.{length}
+use Rattle.std.specs.Prelude.{Ok}
 use Rattle.ring.specs.Word.{Q, at}
-use Rattle.params.specs.declared.Answer.{Answer}
-use Rattle.params.proofs.Answers.{kept, when_done}
+use Rattle.ring.specs.Phase.{phase_of}
+use Rattle.params.proofs.Answers.{given_ok, given_done}
 use Rattle.params.proofs.Ranges.{in_range}
-use Rattle.tlwe.specs.declared.Level.TheVariants.{Zero}
-use Rattle.tlwe.specs.Key.{keyed_number}
+use Rattle.utils.specs.declared.Torus.{Torus}
 use Rattle.turns.specs.Front.{front_place, front_rounding}
-use Rattle.turns.specs.Private.{Fits}
+use Rattle.drift.specs.PrivateShort.{place_of}
+use Rattle.turns.specs.declared.Rounded.{Rounded}
+use Rattle.turns.proofs.Given.{checked_is, value_is}
 use Rattle.turns.proofs.Steps.{rounding_is}
 use Rattle.turns.proofs.Words.{fitting, place_told, rounding_told}
 use Rattle.turns.proofs.front.Goals as goal
 
 pub place_of-place-requires : goal.place_of-place-requires
-place_of-place-requires c =
-    let passed : let a = c.args in keyed_number a.p Zero (length a.src.now) a.key.now ≡ 0 =
-    sym (ap (λ (s : Answer). s.number) c.phase_of-phase.ensures.said) ∙ c.if-said-ne0.false
-    in
-    let fits : let a = c.args in Fits a.p a.key.now a.src.now =
-    let a = c.args in fitting a.p a.key.now a.src.now passed
-    in
-    fits
+place_of-place-requires c = rw (checked_is c.args.p c.in_ok-c.ensures).0 (fitting _ _ _ (given_ok _ _ (sym c.in_ok-phase.ensures)))
 
-pub overflow_sub-p : goal.overflow_sub-p
-overflow_sub-p c =
-    let passed : let a = c.args in keyed_number a.p Zero (length a.src.now) a.key.now ≡ 0 =
-    sym (ap (λ (s : Answer). s.number) c.phase_of-phase.ensures.said) ∙ c.if-said-ne0.false
-    in
-    let fits : let a = c.args in Fits a.p a.key.now a.src.now =
-    let a = c.args in fitting a.p a.key.now a.src.now passed
-    in
-    let a = c.args in
-    let h = (in_range a.p fits.good).nbit_to in
-    omega arith
-
-pub returns-then-said-ne0-clause-place : goal.returns-then-said-ne0-clause-place
-unfolding front_place front_rounding
-returns-then-said-ne0-clause-place c =
-    let e = c.phase_of-phase.ensures.said in
-    kept _ _ _ (λ z. c.if-said-ne0.true (ap (λ (s : Answer). s.number) e ∙ z))
-
-pub returns-then-said-ne0-clause-rounding : goal.returns-then-said-ne0-clause-rounding
-unfolding front_place front_rounding
-returns-then-said-ne0-clause-rounding c =
-    let e = c.phase_of-phase.ensures.said in
-    kept _ _ _ (λ z. c.if-said-ne0.true (ap (λ (s : Answer). s.number) e ∙ z))
-
-pub returns-clause-place : goal.returns-clause-place
+pub returns : goal.returns
 unfolding Q
-returns-clause-place c =
-    let passed : let a = c.args in keyed_number a.p Zero (length a.src.now) a.key.now ≡ 0 =
-    sym (ap (λ (s : Answer). s.number) c.phase_of-phase.ensures.said) ∙ c.if-said-ne0.false
+returns c =
+    let g = c.args in
+    let checked = checked_is g.p c.in_ok-c.ensures in
+    let z = given_ok _ _ (sym c.in_ok-phase.ensures) in
+    let last_below : at g.src.now g.p.n < Q = (c.type_inv.src g.p.n).fits in
+    let phase : c.in_ok-phase.phase.0 ≡ phase_of g.p.n g.key.now g.src.now = ap (λ (t : Torus). t.0) (value_is _ _ c.in_ok-phase.ensures z refl) in
+    let place : c.place_of-place.result ≡ place_of g.p g.key.now g.src.now = rw checked.0 at c.place_of-place.ensures in
+    let rounding : c.sub.result ≡ front_rounding g.p g.key.now g.src.now =
+    rounding_is g.p (in_range g.p checked.1) g.key.now g.src.now last_below place c.power.ensures c.mul-near.ensures phase c.sub.ensures ∙ sym (rounding_told g.p g.key.now g.src.now)
     in
-    let a = c.args in
-    let z = passed in
-    let place = c.place_of-place.ensures in
-    place ∙ sym (place_told a.p a.key.now a.src.now z)
-
-pub returns-clause-rounding : goal.returns-clause-rounding
-unfolding Q
-returns-clause-rounding c =
-    let passed : let a = c.args in keyed_number a.p Zero (length a.src.now) a.key.now ≡ 0 =
-    sym (ap (λ (s : Answer). s.number) c.phase_of-phase.ensures.said) ∙ c.if-said-ne0.false
+    let same : c.place_of-place.result ≡ front_place g.p g.key.now g.src.now = place ∙ sym (place_told g.p g.key.now g.src.now) in
+    let both : ◌≡◌ {A = Rounded} (record { place = c.place_of-place.result; rounding = record { 0 = c.sub.result } }) (record { place = front_place g.p g.key.now g.src.now; rounding = record { 0 = front_rounding g.p g.key.now g.src.now } }) =
+    λ i. record { place = same i; rounding = record { 0 = rounding i } }
     in
-    let fits : let a = c.args in Fits a.p a.key.now a.src.now =
-    let a = c.args in fitting a.p a.key.now a.src.now passed
-    in
-    let last_below : let a = c.args in at a.src.now a.p.n < Q =
-    (c.type_inv.src c.args.p.n).fits
-    in
-    let a = c.args in
-    let f = fits in
-    let z = passed in
-    let e = c.phase_of-phase.ensures in
-    let place = c.place_of-place.ensures in
-    rounding_is a.p (in_range a.p f.good) a.key.now a.src.now last_below place c.power.ensures c.mul-near.ensures (e.value ∙ when_done _ _ _ z) c.sub.ensures
-    ∙ sym (rounding_told a.p a.key.now a.src.now z)
+    ap Ok both ∙ sym (given_done _ _ z)

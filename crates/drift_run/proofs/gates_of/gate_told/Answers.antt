@@ -54,10 +54,10 @@ way_drift-requires c =
     let p = c.args.p in
     let ws = c.args.wires.now in (
       c.requires.0.secret,
-      read_length p ws _ in-first c.ciphertext.ensures,
-      read_length p ws _ in-second c.ciphertext-2.ensures,
-      read_length p ws _ in-third c.ciphertext-3.ensures,
-      read_length p ws _ in-own c.ciphertext-4.ensures,
+      read_length p ws _ in-first (rw c.p.view_is at c.ciphertext.ensures),
+      read_length p ws _ in-second (rw c.p.view_is at c.ciphertext-2.ensures),
+      read_length p ws _ in-third (rw c.p.view_is at c.ciphertext-3.ensures),
+      read_length p ws _ in-own (rw c.p.view_is at c.ciphertext-4.ensures),
     )
 
 pub returns : goal.returns
@@ -80,4 +80,5 @@ returns c =
     let g = c.args in
     told_gate g.p g.key.now g.bytes.now g.wires.now g.before.now g.g
     way first second third own
-    c.ciphertext.ensures c.ciphertext-2.ensures c.ciphertext-3.ensures c.ciphertext-4.ensures c.drift_at.ensures c.drift_at-2.ensures c.drift_at-3.ensures c.way_drift.ensures
+    (rw c.p.view_is at c.ciphertext.ensures) (rw c.p.view_is at c.ciphertext-2.ensures) (rw c.p.view_is at c.ciphertext-3.ensures) (rw c.p.view_is at c.ciphertext-4.ensures)
+    c.drift_at.ensures c.drift_at-2.ensures c.drift_at-3.ensures c.way_drift.ensures

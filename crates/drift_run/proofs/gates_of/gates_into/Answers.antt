@@ -8,6 +8,7 @@ use Rattle.circuit.specs.Form.{inputs, gates}
 use Rattle.encrypted_run.proofs.Operands.{gates_are}
 use Rattle.drift_run.specs.declared.by_way.Drifted.{Drifted}
 use Rattle.drift_run.proofs.Drifts.{brought_none, gates_none, brought_more, gates_more, brought_end, gates_end}
+use Rattle.drift_run.proofs.Told.{both_are}
 use Rattle.drift_run.proofs.gates_of.gates_into.Goals as goal
 
 pub loop-g-init : goal.loop-g-init
@@ -16,14 +17,14 @@ loop-g-init c =
     let d = c.requires.drifts_length in omega (arith, d)
     in
     let g = c.args in
-    (omega arith, refl, brought_none g.p g.key.now g.bytes.now g.wires.now g.drifts.now fits, gates_none g.p g.key.now g.bytes.now g.wires.now g.drifts.now fits)
+    (refl, brought_none g.p g.key.now g.bytes.now g.wires.now g.drifts.now fits, gates_none g.p g.key.now g.bytes.now g.wires.now g.drifts.now fits)
 
 pub put_drift-told-requires : goal.put_drift-told-requires
 put_drift-told-requires c =
     let l = c.loop-g in
     let e = gates_are c.args.bytes.now c.counts-shape.ensures in
     let t = c.loop-g-test.true in
-    (rw l.invariant.1 c.requires, omega (arith, e, t))
+    (rw l.invariant.0 c.requires, omega (arith, e, t))
 
 pub loop-g-preserved : goal.loop-g-preserved
 loop-g-preserved c =
@@ -35,10 +36,9 @@ loop-g-preserved c =
     let e = gates_are g.bytes.now c.counts-shape.ensures in
     let t = c.loop-g-test.true in
     let put = c.put_drift-told.ensures in (
-      omega (arith, e, t),
-      c.put_drift-told.auto.drifts ∙ l.invariant.1,
-      brought_more g.p g.key.now g.bytes.now g.wires.now g.drifts.now fits l.g l.invariant.3 l.invariant.2 (ap (λ (d : Drifted). d.inside) put.told) c.both-inside.ensures,
-      put.written ∙ gates_more g.p g.key.now g.bytes.now g.wires.now g.drifts.now fits l.g l.invariant.3,
+      c.put_drift-told.auto.drifts ∙ l.invariant.0,
+      brought_more g.p g.key.now g.bytes.now g.wires.now g.drifts.now fits l.g l.invariant.2 l.invariant.1 (ap (λ (d : Drifted). d.inside) put.told) (both_are l.inside c.put_drift-told.result.inside),
+      put.written ∙ gates_more g.p g.key.now g.bytes.now g.wires.now g.drifts.now fits l.g l.invariant.2,
     )
 
 pub returns-clause-told : goal.returns-clause-told
@@ -51,7 +51,7 @@ returns-clause-told c =
     let e = gates_are g.bytes.now c.counts-shape.ensures in
     let t = c.loop-g-test.false in
     let end : gates g.bytes.now ≤ l.g = omega (arith, e, t) in
-    brought_end g.p g.key.now g.bytes.now g.wires.now g.drifts.now fits l.invariant.0 end l.invariant.2
+    brought_end g.p g.key.now g.bytes.now g.wires.now g.drifts.now fits (omega (arith, e)) end l.invariant.1
 
 pub returns-clause-written : goal.returns-clause-written
 returns-clause-written c =
@@ -63,4 +63,4 @@ returns-clause-written c =
     let e = gates_are g.bytes.now c.counts-shape.ensures in
     let t = c.loop-g-test.false in
     let end : gates g.bytes.now ≤ l.g = omega (arith, e, t) in
-    gates_end g.p g.key.now g.bytes.now g.wires.now g.drifts.now fits l.g l.invariant.0 end c.requires.drifts_length l.invariant.3
+    gates_end g.p g.key.now g.bytes.now g.wires.now g.drifts.now fits l.g (omega (arith, e)) end c.requires.drifts_length l.invariant.2

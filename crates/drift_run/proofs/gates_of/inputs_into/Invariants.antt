@@ -10,7 +10,4 @@ use Rattle.ring.specs.Bit.{truth}
 use Rattle.drift_run.proofs.gates_of.inputs_into.Given as goal
 
 abbrev pub invariant-loop-i : goal.invariant-loop-i
-invariant-loop-i l = (l.n ≡ length l.plain) × (l.i ≤ length l.plain) × (length l.drifts ≡ length l.initial.drifts) × (l.drifts ≡ tab l.i (λ k. fresh_word l.p l.key (cipher_at l.p l.ins k) (truth (at l.plain k))) ++ drop l.i l.initial.drifts)
-
-abbrev pub decreases-loop-i : goal.decreases-loop-i
-decreases-loop-i l = length l.plain - l.i
+invariant-loop-i l = l.drifts ≡ tab l.i (λ k. fresh_word l.p l.key (cipher_at l.p l.ins k) (truth (at l.plain k))) ++ drop l.i l.initial.drifts

@@ -7,7 +7,4 @@ use Rattle.drift.specs.PrivateCircuit.{all_words}
 use Rattle.drift_run.proofs.gates_of.outputs_inside.Given as goal
 
 abbrev pub invariant-loop-o : goal.invariant-loop-o
-invariant-loop-o l = (l.n ≡ outputs l.bytes) × (l.o ≤ outputs l.bytes) × (l.inside ≡ all_words (tab l.o (λ k. at l.drifts (output_at l.bytes k))))
-
-abbrev pub decreases-loop-o : goal.decreases-loop-o
-decreases-loop-o l = outputs l.bytes - l.o
+invariant-loop-o l = l.inside ≡ all_words (tab l.o (λ k. at l.drifts (output_at l.bytes k)))

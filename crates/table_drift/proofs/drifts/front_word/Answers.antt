@@ -3,37 +3,32 @@
 use mathlib.Core.Path.{◌≡◌, sym, ap, ◌∙◌}
 use Prim.Native.Nat.{◌≤◌}
 use native.Mathlib.Omega.{arith}
-use Rattle.params.specs.declared.Sizes.{Sizes}
 use Rattle.params.specs.declared.Params.{Params}
-use Rattle.params.specs.Ranges.{params_number}
-use Rattle.params.specs.Sizes.{size, sizes_of}
-use Rattle.params.proofs.Ranges.{in_range, size_to, sizes_good}
+use Rattle.params.specs.declared.Sizes.{Sizes}
+use Rattle.params.specs.Ranges.{InRange}
+use Rattle.params.specs.Sizes.{size, sizes_in}
+use Rattle.params.proofs.Ranges.{size_to}
 use Rattle.words.proofs.Scratch.{scratch}
 use Rattle.table_drift.proofs.drifts.front_word.Goals as goal
 
-size_is : (p : Params) → params_number p ≡ 0 → {s : Sizes} → s ≡ sizes_of p → s.size ≡ size p
-size_is p z e = ap (λ (s : Sizes). s.size) (e ∙ sizes_good p z)
-
 -- a polynomial fits the scratch
-room : (p : Params) → params_number p ≡ 0 → {s : Sizes} → s ≡ sizes_of p → s.size ≤ 1024
-room p z e = let h = size_is p z e in let k = size_to p (in_range p z) in omega arith
+room : (p : Params) → InRange p → {s : Sizes} → s ≡ sizes_in p → s.size ≤ 1024
+room p r e = let h = ap (λ (s : Sizes). s.size) e in let k = size_to p r in omega arith
 
 pub slice_bounds-va-end : goal.slice_bounds-va-end
-slice_bounds-va-end c = room _ c.requires.0.good c.sizes_of-s.ensures
+slice_bounds-va-end c = room _ c.p.invariant.0 c.p.invariant.1
 
 pub slice_bounds-front_on-end : goal.slice_bounds-front_on-end
-slice_bounds-front_on-end c = sym (scratch 1024 _ (room _ c.requires.0.good c.sizes_of-s.ensures))
+slice_bounds-front_on-end c = sym (scratch 1024 _ (room _ c.p.invariant.0 c.p.invariant.1))
 
 pub slice_bounds-vb-end : goal.slice_bounds-vb-end
-slice_bounds-vb-end c = room _ c.requires.0.good c.sizes_of-s.ensures
+slice_bounds-vb-end c = room _ c.p.invariant.0 c.p.invariant.1
 
 pub slice_bounds-front_on-end-2 : goal.slice_bounds-front_on-end-2
-slice_bounds-front_on-end-2 c = sym (scratch 1024 _ (room _ c.requires.0.good c.sizes_of-s.ensures))
+slice_bounds-front_on-end-2 c = sym (scratch 1024 _ (room _ c.p.invariant.0 c.p.invariant.1))
 
 pub front_on-requires : goal.front_on-requires
 front_on-requires c =
     let h = c.requires in
-    let z = h.0.good in
-    let e = c.sizes_of-s.ensures in
-    let x = scratch 1024 _ (room _ z e) ∙ size_is _ z e in
-    (h.0, x, x, h.1)
+    let x = scratch 1024 _ (room _ c.p.invariant.0 c.p.invariant.1) ∙ ap (λ (s : Sizes). s.size) c.p.invariant.1 ∙ ap size c.p.view_is in
+    (h.0, h.1, x, x, h.2)
