@@ -12,7 +12,7 @@ ghost use Rattle.ring.specs.Private.{add_by, acc_to};
 use params::{Params, Refusal};
 
 // The refusal of both routines: each slice has N words.
-#[tactic(auto, using(params::proofs::Ranges::size_to), unfolding(crate::specs::Product::product_number))]
+#[tactic(auto, unfolding(crate::specs::Product::product_number))]
 fn check(p: Params, la: usize, lb: usize, lo: usize) -> Result<(), Refusal>
     ensures said { result ≡ outcome (answer (product_number p la lb lo)) }
     ensures passes { OnOk result (product_number p la lb lo ≡ 0) }

@@ -1,6 +1,6 @@
 -- The message moduli: what holds at each of the six holds at every modulus that is not refused, so that laws are reckoned at numerals.
 -- Assumes nothing.
-use mathlib.Core.Path.{◌≡◌, sym, ap, subst}
+use mathlib.Core.Path.{◌≡◌, sym, subst}
 use mathlib.Core.Logic.{◌⊎◌, inl, inr, ⊎_elim}
 use Prim.Native.Nat.{ℕ, ◌*◌, ◌/◌, ◌%◌, ◌^◌, ◌≤◌, ◌<◌}
 use native.Mathlib.Decide.{ℕ_discrete}
@@ -10,17 +10,7 @@ use lib.Dec.{lit≤}
 use Rattle.ring.specs.Centre.{H}
 use Rattle.tlwe.specs.Plain.{is_modulus, modulus_number, message_word}
 
--- the six moduli are taken
-pub modulus_taken : (m : ℕ) → (m ≡ 2) ⊎ (m ≡ 4) ⊎ (m ≡ 8) ⊎ (m ≡ 16) ⊎ (m ≡ 32) ⊎ (m ≡ 64) → 0 ≡ modulus_number m
-unfolding is_modulus
-modulus_taken m =
-    ⊎_elim (λ e. sym (ap modulus_number e))
-    (⊎_elim (λ e. sym (ap modulus_number e))
-    (⊎_elim (λ e. sym (ap modulus_number e))
-    (⊎_elim (λ e. sym (ap modulus_number e))
-    (⊎_elim (λ e. sym (ap modulus_number e)) (λ e. sym (ap modulus_number e))))))
-
--- and no other
+-- no other modulus is taken
 pub modulus_refused : (m : ℕ) → ((m ≡ 2) ⊎ (m ≡ 4) ⊎ (m ≡ 8) ⊎ (m ≡ 16) ⊎ (m ≡ 32) ⊎ (m ≡ 64) → ⊥) → 5 ≡ modulus_number m
 unfolding is_modulus
 modulus_refused m h =
