@@ -16,7 +16,7 @@ use Rattle.ring.proofs.Parts.{part_length}
 use Rattle.params.specs.declared.Params.{Params}
 use Rattle.params.specs.Ranges.{InRange}
 use Rattle.params.specs.Sizes.{size, base, sizes_in, switching_rows, switching_words, bit_words, bootstrapping_words}
-use Rattle.params.proofs.Ranges.{sizes_small, base_to}
+use Rattle.params.proofs.Ranges.{sizes_small, base_two, base_to}
 use Rattle.key.specs.Switching.{row_index, row_part}
 use Rattle.key.specs.Bits.{bit_rows}
 use Rattle.key.proofs.Places.{row_below}
@@ -47,10 +47,10 @@ module _ (p : Params) (i j k : ℕ) (hi : i < size p) (hj : j < p.t) (from : 1 �
   unfolding row_part
   row_length key e = part_length key (row_index p i j k * (p.n + 1)) (p.n + 1) (rw e row_end)
 
--- the same of the place as it is reckoned
-pub place_small : (p : Params) → InRange p → (i j k : ℕ) → i < size p → j < p.t → 1 ≤ k → k < base p → (base p - 1) * (p.t * i + j) + (k - 1) ≤ 1935360
+-- so is its product, as it is reckoned
+pub place_small : (p : Params) → InRange p → (i j : ℕ) → i < size p → j < p.t → (base p - 1) * (p.t * i + j) ≤ 1935360
 unfolding row_index
-place_small p r i j k hi hj from hk = row_small p i j k hi hj from hk r
+place_small p r i j hi hj = let b = base_two p r in omega (arith, row_small p i j 1 hi hj (omega arith) (omega arith) r)
 
 -- ---- what a function that is lent checked parameters knows of them, in the terms of its clauses
 

@@ -24,7 +24,7 @@ pub fn bit_rows_answer(p: Params, length: usize, i: usize) -> Result<(), Refusal
     Ok(())
 }
 
-/// The 2L rows of bit i, as that part of the lent key; the empty part where `bit_rows_answer` gives a refusal.
+/// The 2L rows of bit i, as that part of the lent key; where `bit_rows_answer` gives a refusal, the empty part (01: 'A refused lookup hands back an empty part').
 #[tactic(auto, using(crate::proofs::Checks::bit_within, crate::proofs::Checks::bit_handed))]
 pub fn bit_rows(p: Params, key: &[u32], i: usize) -> &[u32]
     ensures { result.now ≡ if_done (bit_rows_number p (length key.now) i) (bit_rows p key.now i) [] }

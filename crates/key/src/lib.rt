@@ -64,7 +64,7 @@ fn base_of(p: Checked) -> usize
 }
 
 // The place of row (i, j, k) among the rows of the switching key.
-#[tactic(auto, using(crate::proofs::Rows::place_small), unfolding(crate::specs::Switching::row_index))]
+#[tactic(auto, using(crate::proofs::Rows::place_small, params::proofs::Ranges::base_to), unfolding(crate::specs::Switching::row_index))]
 fn place_of(p: Checked, i: usize, j: usize, k: usize) -> u32
     requires outer { i < size p }
     requires field { j < p.t }
@@ -113,7 +113,7 @@ pub fn switching_row_answer(
     Ok(())
 }
 
-/// Row (i, j, k), as that part of the lent key; the empty part where `switching_row_answer` gives a refusal.
+/// Row (i, j, k), as that part of the lent key; where `switching_row_answer` gives a refusal, the empty part (01: 'A refused lookup hands back an empty part').
 #[tactic(auto, using(crate::proofs::Checks::row_within, crate::proofs::Checks::row_handed), unfolding(crate::specs::Switching::lookup_number))]
 pub fn switching_row(p: Params, key: &[u32], i: usize, j: usize, k: usize) -> &[u32]
     ensures { result.now ≡ if_done (lookup_number p (length key.now) i j k) (row_part p key.now i j k) [] }
