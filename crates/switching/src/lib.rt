@@ -76,7 +76,12 @@ fn switch_into(p: Checked, src: &[u32], ksk: &[u32], out: &mut [u32])
 
 /// The sample src of level 1 as one of level 0: b copied, and for each field of each mask that is not 0 its row subtracted. Refusals: 1, 2.
 #[tactic(auto, unfolding(crate::specs::Switched::switch_number))]
-pub fn identity_key_switching(p: Params, src: &[u32], ksk: &[u32], out: &mut [u32]) -> Result<(), Refusal>
+pub fn identity_key_switching(
+    p: Params,
+    src: &[u32],
+    ksk: &[u32],
+    out: &mut [u32],
+) -> Result<(), Refusal>
     ensures said { result ≡ outcome (answer (switch_number p (length src.now) (length ksk.now) (length out.old))) }
     ensures written { out.new ≡ if_done (switch_number p (length src.now) (length ksk.now) (length out.old)) (switched p ksk.now src.now) out.old }
 {
