@@ -18,7 +18,7 @@ use Rattle.ring.proofs.Tab.{length-tab}
 use Rattle.params.specs.declared.Params.{Params}
 use Rattle.params.specs.Published.{numbers}
 use Rattle.params.specs.Ranges.{params_number}
-use Rattle.params.specs.Refusal.{answer, if_done}
+use Rattle.params.specs.Refusal.{answer, outcome, if_done}
 use Rattle.params.specs.Sizes.{size}
 use Rattle.params.proofs.Answers.{when_done}
 use Rattle.key.specs.Bits.{bit_rows}
@@ -40,7 +40,7 @@ pub lent_tells : (κs : Lfts (lent_c.ended).signature.lifetimes) (a : Args (lent
     → let p = a.0 in let src = a.1.0.now in let va = a.1.1.0.now in let vb = a.1.1.1.0.now in let key = a.1.1.1.1.0.now in let oa = a.1.1.1.1.1.0.now in let ob = a.1.1.1.1.1.1.0.now in
     let number = vector_number p (length src) (length va) (length vb) (length key) (length oa) (length ob) in
     let out = if_done number (blind_rotated p key src (pair va vb)) (pair oa ob) in
-    (x ≡ answer number) × (v.1.1.1.1.1.0 ≡ out.a) × (v.1.1.1.1.1.1.0 ≡ out.b)
+    (x ≡ outcome (answer number)) × (v.1.1.1.1.1.0 ≡ out.a) × (v.1.1.1.1.1.1.0 ≡ out.b)
 lent_tells κs a x v h = (h.0, h.1.0, h.1.1)
 
 -- the gates' vector, lent

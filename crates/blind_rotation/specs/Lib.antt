@@ -1,3 +1,4 @@
 pub mod Blind
 pub mod Drift
 pub mod Refusals
+pub mod Private

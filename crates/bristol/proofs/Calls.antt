@@ -11,7 +11,8 @@ use lib.ListN.{length, take, drop}
 use lib.Seq.{take_at}
 use Rattle.params.specs.declared.Answer.{Answer}
 use Rattle.params.specs.Refusal.{answer}
-use Rattle.params.proofs.Answers.{passed, when_done, when_refused}
+use Rattle.params.proofs.Answers.{passed, when_done, when_refused, given_done, given_ok}
+use Rattle.std.specs.Prelude.{Ok}
 use Rattle.circuit.specs.Form.{longest}
 use Rattle.circuit.specs.Valid.{Valid}
 use Rattle.circuit.specs.Plain.{output_bits}
@@ -61,28 +62,37 @@ module _ (text out : List ℕ) where
   unfolding import_out
   refused_kept h = when_refused (import_answer text (length out)).number (imported text ++ drop (imported_length text) out) out h
 
-  module _ (done : (import_answer text (length out)).number ≡ 0) where
-    pub said_length : (import_said text (length out)).length ≡ imported_length text
+  -- the circuit in front, and the lent bytes behind it
+  pub written : (import_answer text (length out)).number ≡ 0 → import_out text out ≡ imported text ++ drop (imported_length text) out
+  unfolding import_out
+  written done = when_done (import_answer text (length out)).number (imported text ++ drop (imported_length text) out) out done
+
+  -- a call that is not refused hands back the circuit's length
+  pub said_length : (import_answer text (length out)).number ≡ 0 → import_said text (length out) ≡ Ok (imported_length text)
+  unfolding import_said
+  said_length done = given_done (import_answer text (length out)) (imported_length text) done
+
+  module _ {n : ℕ} (said : import_said text (length out) ≡ Ok n) where
+    done : (import_answer text (length out)).number ≡ 0
     unfolding import_said
-    said_length = when_done (import_answer text (length out)).number (imported_length text) 0 done
+    done = given_ok (import_answer text (length out)) (imported_length text) said
 
-    -- the circuit in front, and the lent bytes behind it
-    pub written : import_out text out ≡ imported text ++ drop (imported_length text) out
-    unfolding import_out
-    written = when_done (import_answer text (length out)).number (imported text ++ drop (imported_length text) out) out done
+    length_is_said : n ≡ imported_length text
+    length_is_said = let e = said_length done in cc
 
-    pub written_front : take (import_said text (length out)).length (import_out text out) ≡ imported text
+    -- which is that of the circuit in front
+    pub written_front : take n (import_out text out) ≡ imported text
     written_front =
-        ap (λ (n : ℕ). take n (import_out text out)) said_length
-        ∙ ap (take (imported_length text)) written
+        ap (λ (m : ℕ). take m (import_out text out)) length_is_said
+        ∙ ap (take (imported_length text)) (written done)
         ∙ take_at (imported text) (drop (imported_length text) out) (imported_length text) (length_is text)
 
     -- what is written is a valid circuit
-    pub written_valid : Valid (take (import_said text (length out)).length (import_out text out))
+    pub written_valid : Valid (take n (import_out text out))
     written_valid = let g = import_good text (length out) done in rw written_front (imported_valid text g.form g.limits)
 
     -- and it means what the text means
-    pub written_means : (ins : List ℕ) → output_bits (take (import_said text (length out)).length (import_out text out)) ins ≡ meaning_of text ins
+    pub written_means : (ins : List ℕ) → output_bits (take n (import_out text out)) ins ≡ meaning_of text ins
     written_means ins =
         let g = import_good text (length out) done in
         ap (λ (bs : List ℕ). output_bits bs ins) written_front ∙ imported_means text g.form g.limits ins

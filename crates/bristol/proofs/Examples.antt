@@ -16,7 +16,8 @@ use Rattle.bristol_form.specs.Says.{sizes_to, input_sizes, inputs, output_values
 use Rattle.bristol_form.specs.Form.{size_answer, count_fields, value_fields, head_answer, results_for, count_good, operand_answer, result_answer, name_good, gate_answer, end_answer, form_answer, gate_limit, head_limit, limit_answer, text_answer}
 use Rattle.bristol_form.specs.Meaning.{name_meaning, result_bit, after_results, wire_bit, meaning_of}
 use Rattle.bristol_form.proofs.Examples.{bytes}
-use Rattle.bristol.specs.declared.Imported.{Imported}
+use Rattle.std.specs.Prelude.{Ok, Err}
+use Rattle.params.specs.declared.refusal.Refusal.TheVariants.{Length, Text, Limit}
 use Rattle.bristol.specs.Import.{ours_to, kind_for, needs, operand_for, gate_bytes, head_bytes, output_for, imported, imported_length, import_answer, import_said, import_out}
 
 -- wires set out of order; the and passes two EQWs to the xor, and the not one to the first output
@@ -67,14 +68,10 @@ meanings : (output_bits shuffled_bytes (1 ∷ 1 ∷ []) ≡ 1 ∷ 0 ∷ 1 ∷ []
 unfolding bytes sum_to tab blank blanks front start_of word_of end_of past with_digit value_from number_of number_at alike name_of name_at sizes_to input_sizes inputs output_values output_sizes outputs body operands_place results_place name_place gate_at name_meaning result_bit after_results wire_bit meaning_of field_at wires_to bit_meaning kind_of kinds xor
 meanings = (refl, refl, refl, refl, refl, refl, refl)
 
--- an answer's number, place and length
-abbrev said : ℕ → ℕ → ℕ → Imported
-said number place length = record { number = number; place = place; length = length }
-
 -- done; 2 for a byte too few; 12 and 11 with their places, whatever the room
-answers : (import_said (bytes shuffled) 49 ≡ said 0 0 49) × (import_said (bytes shuffled) 48 ≡ said 2 0 0) × (import_said (bytes passed) 100 ≡ said 0 0 13)
-    × (import_said (bytes many) 1000 ≡ said 12 28 0) × (import_said (bytes many) 0 ≡ said 12 28 0)
-    × (import_said (bytes unset) 1000 ≡ said 11 18 0) × (import_said (bytes unset) 0 ≡ said 11 18 0)
+answers : (import_said (bytes shuffled) 49 ≡ Ok 49) × (import_said (bytes shuffled) 48 ≡ Err Length) × (import_said (bytes passed) 100 ≡ Ok 13)
+    × (import_said (bytes many) 1000 ≡ Err (Limit 28)) × (import_said (bytes many) 0 ≡ Err (Limit 28))
+    × (import_said (bytes unset) 1000 ≡ Err (Text 18)) × (import_said (bytes unset) 0 ≡ Err (Text 18))
 unfolding bytes sum_to tab first blank blanks front start_of word_of end_of past with_digit value_from number_of number_at place_at alike name_of name_at sizes_to input_sizes inputs output_values output_sizes outputs body operands_place results_place name_place gate_at among is_set set_count made size_answer count_fields value_fields head_answer results_for count_good operand_answer result_answer name_good gate_answer end_answer form_answer gate_limit head_limit limit_answer text_answer imported_length import_answer import_said
 answers = (refl, refl, refl, refl, refl, refl, refl)
 

@@ -10,13 +10,15 @@ use Rattle.ring.specs.Sums.{tab}
 use Rattle.ring.proofs.Tab.{at-tab, length-tab}
 use Rattle.ring.specs.Word.{at}
 use Rattle.params.specs.declared.Answer.{Answer}
-use Rattle.params.specs.Refusal.{answer, if_done}
-use Rattle.params.proofs.Answers.{when_done, when_refused}
-use Rattle.bristol_form.specs.declared.Checked.{Checked}
+use Rattle.params.proofs.Answers.{when_refused, given_done, given_ok}
+use Rattle.bristol_form.specs.declared.Contents.{Contents}
 use Rattle.bristol_form.specs.Says.{gates, wires, inputs, outputs, body, gate_at, made}
 use Rattle.bristol_form.specs.Form.{text_answer, checked_of}
 use Rattle.bristol_form.proofs.Accept.{taken}
-use Rattle.bristol.specs.declared.Imported.{Imported}
+use Rattle.bristol_form.proofs.Tells.{passed, refused_by}
+use Rattle.std.specs.Prelude.{Result, Ok, Err}
+use Rattle.params.specs.declared.refusal.Refusal.{Refusal}
+use Rattle.params.specs.declared.refusal.Refusal.TheVariants.{Length}
 use Rattle.bristol.specs.Import.{ours_to, gate_bytes, field_bytes, output_for, head_bytes, imported, imported_length, import_answer, import_said, import_out}
 use Rattle.report.specs.Private.{splice}
 use Rattle.bristol.specs.Private.{tabled, Tabled, Taken}
@@ -26,8 +28,12 @@ use Rattle.bristol.proofs.Calls.{import_done, import_short, refused_kept, writte
 
 -- ---- what the check told
 
+-- a refusal is no value
+apart : {A : Type 0} (x : Result A Refusal) {r : Refusal} {v : A} → x ≡ Err r → x ≡ Ok v → ⊥
+apart x e d = cc
+
 -- A text that is not refused, and what the check told of it.
-pub record CheckedGood (text : List ℕ) (c : Checked) : Type 0 where
+pub record CheckedGood (text : List ℕ) (c : Contents) : Type 0 where
   pub good : Taken text
   pub gates_are : c.gates ≡ gates text
   pub wires_are : c.wires ≡ wires text
@@ -36,32 +42,28 @@ pub record CheckedGood (text : List ℕ) (c : Checked) : Type 0 where
   pub made_is : c.made ≡ made text (gates text)
   pub body_is : c.body ≡ body text
 
-module _ (text : List ℕ) (c : Checked) (e : c ≡ checked_of text) where
-  pub number_is : c.number ≡ (text_answer text).number
+module _ (text : List ℕ) (c : Contents) (e : checked_of text ≡ Ok c) where
+  pub told_done : (text_answer text).number ≡ 0
   unfolding checked_of
-  number_is = ap (λ (x : Checked). x.number) e
+  told_done = given_ok (text_answer text) _ e
 
-  pub place_is : c.place ≡ (text_answer text).place
+  pub checked_good : CheckedGood text c
   unfolding checked_of
-  place_is = ap (λ (x : Checked). x.place) e
-
-  pub checked_good : (text_answer text).number ≡ 0 → CheckedGood text c
-  unfolding checked_of
-  checked_good z =
-      let n = (text_answer text).number in
-      let t = taken text z in
+  checked_good =
+      let t = taken text told_done in
+      let k = passed (text_answer text) _ e in
       record {
         good = record { form = t.0; limits = t.1 };
-        gates_are = ap (λ (x : Checked). x.gates) e ∙ when_done n (gates text) 0 z;
-        wires_are = ap (λ (x : Checked). x.wires) e ∙ when_done n (wires text) 0 z;
-        inputs_are = ap (λ (x : Checked). x.inputs) e ∙ when_done n (inputs text) 0 z;
-        outputs_are = ap (λ (x : Checked). x.outputs) e ∙ when_done n (outputs text) 0 z;
-        made_is = ap (λ (x : Checked). x.made) e ∙ when_done n (made text (gates text)) 0 z;
-        body_is = ap (λ (x : Checked). x.body) e ∙ when_done n (body text) 0 z;
+        gates_are = ap (λ (x : Contents). x.gates) k.1;
+        wires_are = ap (λ (x : Contents). x.wires) k.1;
+        inputs_are = ap (λ (x : Contents). x.inputs) k.1;
+        outputs_are = ap (λ (x : Contents). x.outputs) k.1;
+        made_is = ap (λ (x : Contents). x.made) k.1;
+        body_is = ap (λ (x : Contents). x.body) k.1;
       }
 
 -- the length, as the code sums it up, and that its parts are small
-module _ (text : List ℕ) (c : Checked) (g : CheckedGood text c) where
+module _ (text : List ℕ) (c : Contents) (g : CheckedGood text c) where
   pub length_sum : 11 + 8 * c.made + 2 * c.outputs ≡ imported_length text
   unfolding imported_length
   length_sum = let a = g.made_is in let b = g.outputs_are in omega arith
@@ -91,7 +93,7 @@ table_first text table e =
     }
 
 -- the head, the gates and the outputs
-pub whole : (text : List ℕ) (c : Checked) → CheckedGood text c → (o o₁ o₂ o₃ : List ℕ) → imported_length text ≤ length o
+pub whole : (text : List ℕ) (c : Contents) → CheckedGood text c → (o o₁ o₂ o₃ : List ℕ) → imported_length text ≤ length o
     → o₁ ≡ splice o 0 (head_bytes c.inputs c.made c.outputs) → o₂ ≡ splice o₁ 11 (joined (gates text) (gate_bytes text))
     → o₃ ≡ splice o₂ (11 + 8 * c.made) (joined (outputs text) (λ i. field_bytes (output_for text i))) → o₃ ≡ imported text ++ drop (imported_length text) o
 unfolding imported head_bytes imported_length
@@ -111,47 +113,31 @@ whole text c g o o₁ o₂ o₃ h e f k =
 -- ---- the answer
 
 module _ (text : List ℕ) (room : ℕ) where
-  -- what is said, by the answer
-  said_by : (a : Answer) → import_answer text room ≡ a
-      → ◌≡◌ {A = Imported} (record { number = a.number; place = a.place; length = if_done a.number (imported_length text) 0 }) (import_said text room)
-  unfolding import_said
-  said_by a e = sym (λ i. record { number = (e i).number; place = (e i).place; length = if_done (e i).number (imported_length text) 0 })
-
   -- a refused text has its own answer
   answer_refused : ((text_answer text).number ≡ 0 → ⊥) → import_answer text room ≡ text_answer text
   unfolding import_answer
   answer_refused d = when_refused (text_answer text).number _ (text_answer text) d
 
-  module _ (c : Checked) (e : c ≡ checked_of text) where
-    pub said_refused : (c.number ≡ 0 → ⊥) → ◌≡◌ {A = Imported} (record { number = c.number; place = c.place; length = 0 }) (import_said text room)
-    said_refused d =
-        let z : (text_answer text).number ≡ 0 → ⊥ = λ y. d (number_is text c e ∙ y) in
-        let n = number_is text c e in
-        let p = place_is text c e in
-        let l = sym (when_refused (text_answer text).number (imported_length text) 0 z) in
-        let r : ◌≡◌ {A = Imported} (record { number = c.number; place = c.place; length = 0 })
-        (record { number = (text_answer text).number; place = (text_answer text).place; length = if_done (text_answer text).number (imported_length text) 0 }) =
-        λ i. record { number = n i; place = p i; length = l i }
-        in
-        r ∙ said_by (text_answer text) (answer_refused z)
+  pub said_refused : {r : Refusal} → checked_of text ≡ Err r → Err r ≡ import_said text room
+  unfolding checked_of import_said
+  said_refused e = refused_by (text_answer text) (import_answer text room) _ (imported_length text) e answer_refused
 
   module _ (t : Taken text) where
-    pub said_short : room < imported_length text → ◌≡◌ {A = Imported} (record { number = 2; place = 0; length = 0 }) (import_said text room)
-    said_short h = said_by (answer 2) (import_short text room t.form t.limits h)
+    pub said_short : room < imported_length text → Err Length ≡ import_said text room
+    unfolding import_said
+    said_short h = rw (import_short text room t.form t.limits h)
 
-    pub said_done : (n : ℕ) → n ≡ imported_length text → imported_length text ≤ room → ◌≡◌ {A = Imported} (record { number = 0; place = 0; length = n }) (import_said text room)
-    said_done n e h =
-        let r : ◌≡◌ {A = Imported} (record { number = 0; place = 0; length = n }) (record { number = 0; place = 0; length = imported_length text }) =
-        λ i. record { number = 0; place = 0; length = e i }
-        in
-        r ∙ said_by (answer 0) (import_done text room (record { form = t.form; limits = t.limits; fits = h }))
+    pub said_done : (n : ℕ) → n ≡ imported_length text → imported_length text ≤ room → Ok n ≡ import_said text room
+    unfolding import_said
+    said_done n e h = rw (import_done text room (record { form = t.form; limits = t.limits; fits = h }), e)
 
 -- ---- what the lent slice holds
 
 module _ (text out : List ℕ) where
-  pub out_refused : (c : Checked) → c ≡ checked_of text → (c.number ≡ 0 → ⊥) → out ≡ import_out text out
-  out_refused c e d =
-      let z : (text_answer text).number ≡ 0 → ⊥ = λ y. d (number_is text c e ∙ y) in
+  pub out_refused : {r : Refusal} → checked_of text ≡ Err r → out ≡ import_out text out
+  unfolding checked_of
+  out_refused e =
+      let z : (text_answer text).number ≡ 0 → ⊥ = λ y. let d = given_done (text_answer text) _ y in absurd (let q : ⊥ = apart _ e d in q) in
       sym (refused_kept text out (λ y. z (sym (ap (λ (a : Answer). a.number) (answer_refused text (length out) z)) ∙ y)))
 
   module _ (t : Taken text) where

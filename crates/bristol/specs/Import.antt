@@ -1,13 +1,13 @@
 -- The circuit of a text in the Bristol Fashion form, in our form (02, request 2026-02; 01, 'Circuits'): one gate for each of the text's but EQW, in the text's order.
-use Rattle.std.specs.Prelude.{cond, List, [], ◌∷◌, ◌++◌, ℕ, zero, suc, ◌+◌, ◌*◌, ◌-◌, ◌/◌, ◌%◌, leb, ltb, eqb, length, drop}
+use Rattle.std.specs.Prelude.{Result, cond, List, [], ◌∷◌, ◌++◌, ℕ, zero, suc, ◌+◌, ◌*◌, ◌-◌, ◌/◌, ◌%◌, leb, ltb, eqb, length, drop}
 use Rattle.ring.specs.Lists.{joined}
 use Rattle.params.specs.declared.Answer.{Answer}
-use Rattle.params.specs.Refusal.{answer, check, if_done}
+use Rattle.params.specs.Refusal.{answer, check, if_done, given}
+use Rattle.params.specs.declared.refusal.Refusal.{Refusal}
 use Rattle.circuit.specs.Form.{or_else}
 use Rattle.tokens.specs.Tokens.{xor_name, and_name, inv_name, eqw_name}
 use Rattle.bristol_form.specs.Says.{gates, wires, inputs, outputs, gate_at, operand, result, gate_name, made}
 use Rattle.bristol_form.specs.Form.{text_answer}
-use Rattle.bristol.specs.declared.Imported.{Imported}
 
 -- The wire of our circuit that the text's wire w stands for after j gates: an input keeps its number; a gate's result is the wire of our next gate, but EQW's result
 -- stands for what its operand stands for.
@@ -67,14 +67,9 @@ imported_length text = 11 + 8 * made text (gates text) + 2 * outputs text
 unfoldable pub import_answer : List ℕ → ℕ → Answer
 import_answer text room = or_else (text_answer text) (answer (check (leb (imported_length text) room) 2 0))
 
--- The answer with the length written, 0 where refused.
-unfoldable pub import_said : List ℕ → ℕ → Imported
-import_said text room =
-    record {
-      number = (import_answer text room).number;
-      place = (import_answer text room).place;
-      length = if_done (import_answer text room).number (imported_length text) 0;
-    }
+-- What a call hands back: the length written, or the refusal.
+unfoldable pub import_said : List ℕ → ℕ → Result ℕ Refusal
+import_said text room = given (import_answer text room) (imported_length text)
 
 -- What the lent slice holds afterwards: the circuit, then its old bytes; all of them where refused.
 unfoldable pub import_out : List ℕ → List ℕ → List ℕ

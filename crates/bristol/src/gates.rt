@@ -13,35 +13,28 @@ use crate::lines::line;
 use crate::ours::{ours, put_ours};
 
 // The kind of a gate of this name.
+#[tactic(auto, unfolding(crate::specs::Import::kind_for))]
 fn kind_for(name: usize, constant: usize) -> usize
     ensures { result ≡ kind_for name constant }
 {
-    if name == 1 {
-        return 7;
+    match name {
+        1 => 7,
+        2 => 3,
+        3 => 2,
+        _ => constant,
     }
-    if name == 2 {
-        return 3;
-    }
-    if name == 3 {
-        return 2;
-    }
-    constant
 }
 
 // How many operands our gate of this name has.
+#[tactic(auto, unfolding(crate::specs::Import::needs))]
 fn needed(name: usize) -> usize
     ensures { result ≡ needs name }
 {
-    if name == 1 {
-        return 2;
+    match name {
+        1 | 2 => 2,
+        3 => 1,
+        _ => 0,
     }
-    if name == 2 {
-        return 2;
-    }
-    if name == 3 {
-        return 1;
-    }
-    0
 }
 
 // Our wire for the operand w of index x, where so many are needed; else 0.
@@ -61,9 +54,10 @@ fn operand_for(
     ensures { result ≡ cond (ltb x need) (ours_to text.now j w) 0 }
 {
     if x < need {
-        return ours(text, table, ins, most, j, p, before, w);
+        ours(text, table, ins, most, j, p, before, w)
+    } else {
+        0
     }
-    0
 }
 
 // Our gate for the text's gate j, if it makes one, from a place on; the place after it.
@@ -157,15 +151,13 @@ pub(crate) fn put_gates(
     let mut p = start;
     let mut at = 11;
     let mut before = 0;
-    let mut j = 0;
-    while j < total {
+    for j in 0..total {
         let g = line(text, p);
         let next = put_gate(text, table, out, at, ins, most, j, p, before, g);
         keep(text, table, ins, most, j, p, before, g);
         before += (next - at) / 8;
         at = next;
         p = g.at;
-        j += 1;
     }
     p
 }
@@ -188,10 +180,8 @@ pub(crate) fn put_outputs(
     ensures written { out.new ≡ splice out.old at (joined (outputs text.now) (λ o. field_bytes (output_for text.now o))) }
 {
     let from = most - count;
-    let mut o = 0;
-    while o < count {
+    for o in 0..count {
         let w = ours(text, table, ins, most, total, p, before, from + o);
         put_field(out, at + 2 * o, w);
-        o += 1;
     }
 }

@@ -8,14 +8,6 @@ mod whole;
 
 pub use whole::import;
 
-// The answer to an import: 11 or 12 with the place of the token that shows it, 2 where the lent slice is too short; and the length written, 0 where refused.
-#[derive(Clone, Copy)]
-pub struct Imported {
-    pub number: u32,
-    pub place: usize,
-    pub length: usize,
-}
-
 // What a gate of the text says: its first two operands, its first result, its name, and the place after it.
 #[derive(Clone, Copy)]
 pub struct Line {

@@ -11,13 +11,11 @@ fn after(text: &[u8], at: usize, count: usize, one: usize, two: usize) -> usize
     requires { (one ≡ past text.now at 1) × (two ≡ past text.now at 2) }
     ensures { result ≡ past text.now at count }
 {
-    if count == 1 {
-        return one;
+    match count {
+        1 => one,
+        2 => two,
+        _ => skip(text, at, count),
     }
-    if count == 2 {
-        return two;
-    }
-    skip(text, at, count)
 }
 
 // The place after so many tokens, that after one being known.
@@ -26,9 +24,10 @@ fn after_one(text: &[u8], at: usize, count: usize, one: usize) -> usize
     ensures { result ≡ past text.now at count }
 {
     if count == 1 {
-        return one;
+        one
+    } else {
+        skip(text, at, count)
     }
-    skip(text, at, count)
 }
 
 // The gate that begins at p.

@@ -10,25 +10,15 @@ ghost use Rattle.bristol.specs.Private.{tabled, Tabled, Taken, behind_of};
 use crate::BehindLine;
 use tokens::{back, name, next};
 
-fn wide(x: u16) -> usize
-    ensures { result ≡ x }
-{
-    x as usize
-}
-
 // Where the first operand of a gate of this name is next, p being where its last one is: XOR and AND have one more before that.
 fn first_back(text: &[u8], named: usize, p: usize) -> usize
     ensures { result ≡ cond (eqb named xor_name || eqb named and_name) (back_of text.now p).before p }
 {
-    if named == 1 {
-        let b = back(text, p);
-        return b.before;
+    if named == 1 || named == 2 {
+        back(text, p).before
+    } else {
+        p
     }
-    if named == 2 {
-        let b = back(text, p);
-        return b.before;
-    }
-    p
 }
 
 // The gate that ends at a place, read backwards.
@@ -57,32 +47,24 @@ fn made_before(named: usize, count: usize) -> usize
     ensures { result ≡ cond (eqb named eqw_name) count (count - 1) }
 {
     if named == 5 {
-        return count;
+        count
+    } else {
+        count.saturating_sub(1)
     }
-    if count == 0 {
-        return 0;
-    }
-    count - 1
 }
 
 // Whether our gate for this one sets the wire: EQW makes none.
 fn own(g: BehindLine, wire: usize) -> bool
     ensures { result ≡ cond (eqb g.name eqw_name) false (eqb g.result wire) }
 {
-    if g.name == 5 {
-        return false;
-    }
-    g.result == wire
+    g.name != 5 && g.result == wire
 }
 
 // What stands for the wire before a gate that makes none for it: EQW's operand for its result.
 fn wire_before(g: BehindLine, wire: usize) -> usize
     ensures { result ≡ cond (eqb g.result wire) g.last wire }
 {
-    if g.result == wire {
-        return g.last;
-    }
-    wire
+    if g.result == wire { g.last } else { wire }
 }
 
 // Our wire for wire w before gate j, which begins at p, so many of our gates being before it: the gates before it are read backwards, so that EQW after EQW is followed
@@ -94,8 +76,7 @@ fn in_text(text: &[u8], ins: usize, j: usize, p: usize, before: usize, w: usize)
     let mut wire = w;
     let mut count = before;
     let mut at = p;
-    let mut i = j;
-    while 0 < i {
+    for _ in (0..j).rev() {
         let g = line_back(text, at);
         count = made_before(g.name, count);
         if own(g, wire) {
@@ -103,7 +84,6 @@ fn in_text(text: &[u8], ins: usize, j: usize, p: usize, before: usize, w: usize)
         }
         wire = wire_before(g, wire);
         at = g.at;
-        i -= 1;
     }
     wire
 }
@@ -122,13 +102,11 @@ pub(crate) fn ours(
     requires { (ins ≡ inputs text.now) × (most ≡ wires text.now) × Taken text.now × (j ≤ gates text.now) × (p ≡ gate_at text.now j) × (before ≡ made text.now j) × Tabled text.now table.now j }
     ensures { result ≡ ours_to text.now j w }
 {
-    if 24576 < most {
-        return in_text(text, ins, j, p, before, w);
+    if 24576 < most || 24576 <= w {
+        in_text(text, ins, j, p, before, w)
+    } else {
+        usize::from(table[w])
     }
-    if 24576 <= w {
-        return in_text(text, ins, j, p, before, w);
-    }
-    wide(table[w])
 }
 
 // The table before the first gate: each wire stands for itself.
@@ -136,10 +114,8 @@ pub(crate) fn start_table(table: &mut [u16])
     requires { length table.old ≡ tabled }
     ensures { table.new ≡ tab tabled (λ w. w) }
 {
-    let mut w = 0;
-    while w < table.len() {
-        table[w] = w as u16;
-        w += 1;
+    for (w, own) in table.iter_mut().enumerate() {
+        *own = w as u16;
     }
 }
 

@@ -8,22 +8,26 @@ use native.Mathlib.Decide.{ℕ_discrete}
 use native.Mathlib.Nat.{zero-div}
 use native.Mathlib.Numerals.{add-one}
 use native.Mathlib.Omega.{arith}
-use borrow.Author.Tests.{eq-eqb, ne_eqb}
+use borrow.Author.Tests.{ne_eqb}
 use lib.Dec.{ltb, eqb}
 use lib.ListN.{length, replicate, length-replicate}
 use Rattle.ring.specs.Word.{at}
 use Rattle.params.specs.declared.Answer.{Answer}
-use Rattle.params.specs.Refusal.{answer}
+use Rattle.params.specs.Refusal.{answer, Outcome, given, outcome, unless, done}
+use Rattle.params.specs.declared.refusal.Refusal.{Refusal}
+use Rattle.params.specs.declared.refusal.Refusal.TheVariants.{Limit}
+use Rattle.std.specs.Prelude.{Ok, Err}
+use Rattle.std.specs.Result.{result_and}
 use Rattle.circuit.specs.Form.{or_else, asks, first_at, first}
 use Rattle.circuit.proofs.Accept.{or_done}
-use Rattle.circuit.proofs.Steps.{first_start, first_step}
+use Rattle.circuit.proofs.Steps.{first_start, first_stop, first_step}
 use Rattle.tokens.specs.Tokens.{place_at, eqw_name, mand_name}
 use Rattle.bristol_form.specs.declared.GateRead.{GateRead}
-use Rattle.bristol_form.specs.declared.Limit.{Limit}
 use Rattle.bristol_form.specs.Says.{wires, inputs, body, gate_at, result_count, name_place, gate_name, among, is_set, set_count, made}
 use Rattle.bristol_form.specs.Form.{gate_answer, gate_limit}
-use Rattle.bristol_form.specs.Private.{Told, held, held_bit, Holds, Follows, limit_after}
-use Rattle.bristol_form.proofs.Tells.{telling, told_as, told_first, told_then}
+use Rattle.bristol_form.specs.Private.{held, held_bit, Holds, named_of, gate_of}
+use Rattle.bristol_form.proofs.Tells.{refused_by, passed}
+use Rattle.bristol_form.proofs.Lookup.{gate_next}
 use Rattle.bristol_form.proofs.AcceptGate.{gate_good}
 
 -- ---- one answer more in a row
@@ -56,13 +60,22 @@ module _ (f : ℕ → Answer) (none : (k : ℕ) → (f k).number ≡ 0 → f k �
 
 -- ---- from gate to gate
 
-limit_by : (test : Bool) (p : ℕ) → let l : Limit = cond test (record { number = 0; place = 0 }) (record { number = 12; place = p }) in Told (first_at (asks test 12 p ∷ [])) l.number l.place
-limit_by true p = telling refl refl
-limit_by false p = telling refl refl
+-- a limit test, handed back
+limit_by : (test : Bool) (p : ℕ) → outcome (first_at (asks test 12 p ∷ [])) ≡ unless test (Limit p) done
+limit_by true p = refl
+limit_by false p = refl
 
 limit_none : (test : Bool) (p : ℕ) → (first_at (asks test 12 p ∷ [])).number ≡ 0 → first_at (asks test 12 p ∷ []) ≡ answer 0
 limit_none true p e = refl
 limit_none false p e = absurd (let q : ⊥ = omega arith in q)
+
+-- the first of two refusals
+outcome_or : (a b : Answer) → outcome (or_else a b) ≡ result_and (outcome a) (outcome b)
+outcome_or a b = go (eqb a.number 0) refl
+  where
+    go : (t : Bool) → eqb a.number 0 ≡ t → outcome (or_else a b) ≡ result_and (outcome a) (outcome b)
+    go true h = rw h
+    go false h = rw (h, h)
 
 -- the limit test of gate j, and its name's place
 abbrev test : List ℕ → ℕ → Bool
@@ -76,17 +89,13 @@ module _ (text : List ℕ) (j : ℕ) where
   unfolding gate_limit
   limits k = limit_none (test text k) (place text k)
 
-  limit_told : (a : Answer) {n p : ℕ} → Told a n p → let l = limit_after n p (gate_name text (gate_at text j)) (made text j) (place text j) in Told (or_else a (gate_limit text j)) l.number l.place
-  unfolding limit_after gate_limit
-  limit_told a {n} {p} t = go (ℕ_discrete n 0)
-    where
-      go : Dec (n ≡ 0) → let l = limit_after n p (gate_name text (gate_at text j)) (made text j) (place text j) in Told (or_else a (gate_limit text j)) l.number l.place
-      go (yes e) = told_then a (gate_limit text j) (sym t.number_is ∙ e) (rw (eq-eqb n 0 e) (limit_by (test text j) (place text j)))
-      go (no d) = rw (ne_eqb n 0 d) (told_first a (gate_limit text j) t d)
-
-  limit_next : {n p name m named : ℕ} {l : Limit} → Told (first (gate_limit text) 0 j) n p → name ≡ gate_name text (gate_at text j) → m ≡ made text j → named ≡ place text j
-      → l ≡ limit_after n p name m named → Told (first (gate_limit text) 0 (j + 1)) l.number l.place
-  limit_next t a b c e = told_as (first_more (gate_limit text) limits j) (rw (e, a, b, c) (limit_told (first (gate_limit text) 0 j) t))
+  limit_next : {l m : Outcome} {name o named : ℕ} → l ≡ outcome (first (gate_limit text) 0 j) → name ≡ gate_name text (gate_at text j) → o ≡ made text j → named ≡ place text j
+      → m ≡ result_and l (unless (not (eqb name mand_name) && (eqb name eqw_name || ltb o 1024)) (Limit named) done) → m ≡ outcome (first (gate_limit text) 0 (j + 1))
+  unfolding gate_limit
+  limit_next t a b c e =
+      rw (e, t, a, b, c)
+      (sym (ap (λ (x : Answer). outcome x) (first_more (gate_limit text) limits j) ∙ outcome_or (first (gate_limit text) 0 j) (gate_limit text j)
+      ∙ ap (λ (x : Outcome). result_and (outcome (first (gate_limit text) 0 j)) x) (limit_by (test text j) (place text j))))
 
   made_next : {m w name : ℕ} → m ≡ made text j → name ≡ gate_name text (gate_at text j) → w ≡ cond (eqb name eqw_name) 0 1 → m + w ≡ made text (j + 1)
   unfolding made
@@ -124,33 +133,41 @@ holds_first text n bits long i l h =
 
 -- what the loop over the gates has before gate j: where it stands, how many wires are set, how many gates of our own and which limit came before, that none was refused,
 -- and which wires are set
-pub record Carried (text bits : List ℕ) (total j p set ours limit limited : ℕ) : Type 0 where
-  pub within : j ≤ total
+pub record Carried (text bits : List ℕ) (total j p set ours : ℕ) (limit : Outcome) : Type 0 where
   pub at_gate : p ≡ gate_at text j
   pub set_is : set ≡ set_count text j
   pub set_to : set ≤ wires text
   pub made_is : ours ≡ made text j
-  pub limit_is : Told (first (gate_limit text) 0 j) limit limited
+  pub limit_is : limit ≡ outcome (first (gate_limit text) 0 j)
   pub left : first (gate_answer text) 0 total ≡ first (gate_answer text) j (total - j)
   pub holds : Holds text bits j 0
 
 module _ (text bits : List ℕ) (total : ℕ) where
-  pub carried_first : {p set : ℕ} → p ≡ body text → set ≡ inputs text → set ≤ wires text → Holds text bits 0 0 → Carried text bits total 0 p set 0 0 0
+  pub carried_first : {p set : ℕ} → p ≡ body text → set ≡ inputs text → set ≤ wires text → Holds text bits 0 0 → Carried text bits total 0 p set 0 done
   unfolding gate_at set_count made first
   carried_first a b h o =
-      record { within = omega arith; at_gate = a; set_is = b; set_to = h; made_is = refl; limit_is = telling refl refl; left = first_start (gate_answer text) total; holds = o }
+      record { at_gate = a; set_is = b; set_to = h; made_is = refl; limit_is = refl; left = first_start (gate_answer text) total; holds = o }
 
-  pub carried_next : (j : ℕ) {p set ours limit limited w : ℕ} {after : List ℕ} {g : GateRead} {l : Limit} → Carried text bits total j p set ours limit limited → j < total → (gate_answer text j).number ≡ 0
-      → Follows text j g → Holds text after (suc j) 0 → l ≡ limit_after limit limited g.name ours g.named → w ≡ cond (eqb g.name eqw_name) 0 1
-      → Carried text after total (j + 1) g.at (set + g.results) (ours + w) l.number l.place
-  carried_next j c h e f o el ew =
+  pub carried_next : (j : ℕ) {p set ours w : ℕ} {limit l : Outcome} {after : List ℕ} {g : GateRead} → Carried text bits total j p set ours limit → j < total
+      → given (gate_answer text j) (gate_of text j) ≡ Ok g → Holds text after (suc j) 0
+      → l ≡ result_and limit (unless (not (eqb g.name mand_name) && (eqb g.name eqw_name || ltb ours 1024)) (Limit g.named) done) → w ≡ cond (eqb g.name eqw_name) 0 1
+      → Carried text after total (j + 1) g.at (set + g.results) (ours + w) l
+  unfolding gate_of named_of
+  carried_next j {g = g} c h e o el ew =
+      let k = passed (gate_answer text j) (gate_of text j) e in
+      let results = ap (λ (x : GateRead). x.results) k.1 in
+      let name = ap (λ (x : GateRead). x.name) k.1 in
       record {
-        within = omega arith;
-        at_gate = f.at_is ∙ ap (gate_at text) (sym (add-one j));
-        set_is = set_next text j c.set_is f.results_are;
-        set_to = set_within text j e c.set_is f.results_are;
-        made_is = made_next text j c.made_is f.name_is ew;
-        limit_is = limit_next text j c.limit_is f.name_is c.made_is f.name_place_is el;
-        left = c.left ∙ first_step (gate_answer text) j total h e;
+        at_gate = ap (λ (x : GateRead). x.at) k.1 ∙ sym (gate_next text j);
+        set_is = set_next text j c.set_is results;
+        set_to = set_within text j k.0 c.set_is results;
+        made_is = made_next text j c.made_is name ew;
+        limit_is = limit_next text j c.limit_is name c.made_is (ap (λ (x : GateRead). x.named) k.1) el;
+        left = c.left ∙ first_step (gate_answer text) j total h k.0;
         holds = rw add-one o;
       }
+
+  -- a gate is refused
+  pub stops : {A : Type 0} (j : ℕ) (v : A) {r : Refusal} → first (gate_answer text) 0 total ≡ first (gate_answer text) j (total - j) → j < total → given (gate_answer text j) (gate_of text j) ≡ Err r
+      → Err r ≡ given (first (gate_answer text) 0 total) v
+  stops j v l h e = refused_by (gate_answer text j) (first (gate_answer text) 0 total) (gate_of text j) v e (λ d. l ∙ first_stop (gate_answer text) j total h d)

@@ -3,17 +3,26 @@
 use mathlib.Core.Path.{◌≡◌, refl, sym, ap, ◌∙◌}
 use mathlib.Core.Bool.{Bool, true, false, not, ◌&&◌, ◌||◌}
 use mathlib.Core.List.{List, [], ◌∷◌}
-use Prim.Native.Nat.{ℕ}
+use Prim.Native.Nat.{ℕ, suc}
 use lib.Dec.{leb, ltb, eqb}
+use Rattle.std.specs.Prelude.{Result, Ok, Err, OnOk}
 use Rattle.params.specs.declared.Answer.{Answer}
+use Rattle.params.specs.declared.refusal.Refusal.{Refusal}
+use Rattle.params.specs.Refusal.{given}
 use Rattle.circuit.specs.Form.{asks, first_at, first, or_else}
+use Rattle.circuit.proofs.Accept.{or_done}
 use Rattle.tokens.specs.declared.Token.{Token}
-use Rattle.tokens.specs.Tokens.{past, number_at, place_at, name_at, name_token_at}
+use Rattle.tokens.specs.Tokens.{past, number_at, place_at, name_at, token_at, name_token_at}
+use Rattle.tokens.proofs.Laws.{past_none}
+use Rattle.tokens.proofs.Reading.{reading}
+use Rattle.bristol_form.specs.declared.Counts.{Counts}
 use Rattle.bristol_form.specs.Says.{wires, set_by, is_set, gate_at, operand_count, result_count, operands_place, results_place, name_place, operand}
 use Rattle.bristol_form.specs.Form.{results_for, count_good, operand_answer, result_answer, gate_answer}
-use Rattle.bristol_form.specs.Private.{Told, counts_answer, name_answer}
+use Rattle.bristol_form.specs.Private.{Holds, counts_answer, counts_of, name_answer, named_of, gate_of}
 use Rattle.bristol_form.proofs.GateTests.{ask_one}
-use Rattle.bristol_form.proofs.Tells.{telling, told_as, told_first, told_then}
+use Rattle.bristol_form.proofs.Tells.{or_first, refused_by, passed}
+use Rattle.bristol_form.proofs.Lookup.{past_operands, past_results}
+use Rattle.bristol_form.proofs.Holding.{holds_next}
 
 -- ---- the numbers of operands and results
 
@@ -27,17 +36,17 @@ module _ (text : List ℕ) (j : ℕ) where
   abbrev both : Bool → Bool → Answer
   both s t = first_at (asks s 11 (place_at text (gate_at text j) 0) ∷ asks t 11 (place_at text (gate_at text j) 1) ∷ [])
 
-  pub counts_first : (q : ℕ) → count_test ≡ false → q ≡ place_at text (gate_at text j) 0 → Told (counts_answer text j) 11 q
+  pub counts_first : count_test ≡ false → counts_answer text j ≡ record { number = 11; place = place_at text (gate_at text j) 0 }
   unfolding counts_answer
-  counts_first q e h = telling (ap (λ (s : Bool). both s result_test) e) h
+  counts_first e = ap (λ (s : Bool). both s result_test) e
 
-  pub counts_second : (q : ℕ) → count_test ≡ true → result_test ≡ false → q ≡ place_at text (gate_at text j) 1 → Told (counts_answer text j) 11 q
+  pub counts_second : count_test ≡ true → result_test ≡ false → counts_answer text j ≡ record { number = 11; place = place_at text (gate_at text j) 1 }
   unfolding counts_answer
-  counts_second q e f h = telling (ap (λ (s : Bool). both s result_test) e ∙ ap (both true) f) h
+  counts_second e f = ap (λ (s : Bool). both s result_test) e ∙ ap (both true) f
 
-  pub counts_done : count_test ≡ true → result_test ≡ true → Told (counts_answer text j) 0 0
+  pub counts_done : count_test ≡ true → result_test ≡ true → (counts_answer text j).number ≡ 0
   unfolding counts_answer
-  counts_done e f = telling (ap (λ (s : Bool). both s result_test) e ∙ ap (both true) f) refl
+  counts_done e f = ap (λ (a : Answer). a.number) (ap (λ (s : Bool). both s result_test) e ∙ ap (both true) f)
 
 -- ---- operands and results as the routines read them
 
@@ -90,42 +99,115 @@ module _ (text : List ℕ) (j : ℕ) where
   unfolding gate_answer counts_answer name_answer
   parts = refl
 
-  module _ (cn cp : ℕ) (C : Told (counts_answer text j) cn cp) where
-    pub gate_counts : (cn ≡ 0 → ⊥) → Told (gate_answer text j) cn cp
-    gate_counts d = told_as parts (told_first (counts_answer text j) after_counts C d)
+  pub gate_counts : ((counts_answer text j).number ≡ 0 → ⊥) → gate_answer text j ≡ counts_answer text j
+  gate_counts d = parts ∙ or_first (counts_answer text j) after_counts d
 
-    module _ (c0 : cn ≡ 0) (k on op : ℕ) (K : k ≡ operand_count text g) (O : Told (first (operand_answer text j) 0 k) on op) where
-      beyond_counts : (n p : ℕ) → Told after_counts n p → Told (gate_answer text j) n p
-      beyond_counts n p t = told_as parts (told_then (counts_answer text j) after_counts (sym C.number_is ∙ c0) t)
+  module _ (c0 : (counts_answer text j).number ≡ 0) where
+    beyond_counts : gate_answer text j ≡ after_counts
+    beyond_counts = parts ∙ or_done (counts_answer text j) after_counts c0
 
-      operands_told : Told (first (operand_answer text j) 0 (operand_count text g)) on op
-      operands_told = told_as (ap (first (operand_answer text j) 0) (sym K)) O
+    pub gate_operands : ((first (operand_answer text j) 0 (operand_count text g)).number ≡ 0 → ⊥) → gate_answer text j ≡ first (operand_answer text j) 0 (operand_count text g)
+    gate_operands d = beyond_counts ∙ or_first (first (operand_answer text j) 0 (operand_count text g)) after_operands d
 
-      pub gate_operands : (on ≡ 0 → ⊥) → Told (gate_answer text j) on op
-      gate_operands d = beyond_counts on op (told_first (first (operand_answer text j) 0 (operand_count text g)) after_operands operands_told d)
+    module _ (o0 : (first (operand_answer text j) 0 (operand_count text g)).number ≡ 0) where
+      beyond_operands : gate_answer text j ≡ after_operands
+      beyond_operands = beyond_counts ∙ or_done (first (operand_answer text j) 0 (operand_count text g)) after_operands o0
 
-      module _ (o0 : on ≡ 0) (m rn rp : ℕ) (M : m ≡ result_count text g) (R : Told (first (result_answer text j) 0 m) rn rp) where
-        beyond_operands : (n p : ℕ) → Told after_operands n p → Told (gate_answer text j) n p
-        beyond_operands n p t =
-            beyond_counts n p (told_then (first (operand_answer text j) 0 (operand_count text g)) after_operands (sym operands_told.number_is ∙ o0) t)
+      pub gate_results : ((first (result_answer text j) 0 (result_count text g)).number ≡ 0 → ⊥) → gate_answer text j ≡ first (result_answer text j) 0 (result_count text g)
+      gate_results d = beyond_operands ∙ or_first (first (result_answer text j) 0 (result_count text g)) after_results d
 
-        results_told : Told (first (result_answer text j) 0 (result_count text g)) rn rp
-        results_told = told_as (ap (first (result_answer text j) 0) (sym M)) R
+      module _ (r0 : (first (result_answer text j) 0 (result_count text g)).number ≡ 0) (k w : ℕ) (set : Bool) (p : ℕ) (K : k ≡ operand_count text g) (W : w ≡ operand text g 0) (S : set ≡ eqb k 1 && is_set text j w) (P : p ≡ name_place text g) where
+        name_same : after_results ≡ name_answer text k w set p
+        unfolding name_answer
+        name_same =
+            ap (λ (x : ℕ). name_answer text x (operand text g 0) (is_set text j (operand text g 0)) (name_place text g)) (sym K)
+            ∙ ap (λ (x : ℕ). name_answer text k x (is_set text j x) (name_place text g)) (sym W)
+            ∙ ap (λ (x : ℕ). name_answer text k w (is_set text j w) x) (sym P)
+            ∙ ap (λ (t : Bool). first_at (asks t 11 (place_at text p 0) ∷ [])) (sym (ask_one k w (is_set text j w) (name_at text p 0)))
+            ∙ ap (λ (t : Bool). name_answer text k w t p) (sym S)
 
-        pub gate_results : (rn ≡ 0 → ⊥) → Told (gate_answer text j) rn rp
-        gate_results d = beyond_operands rn rp (told_first (first (result_answer text j) 0 (result_count text g)) after_results results_told d)
+        pub gate_named : name_answer text k w set p ≡ gate_answer text j
+        gate_named = sym (beyond_operands ∙ or_done (first (result_answer text j) 0 (result_count text g)) after_results r0 ∙ name_same)
 
-        module _ (r0 : rn ≡ 0) (w : ℕ) (set : Bool) (p nn np : ℕ) (W : w ≡ operand text g 0) (S : set ≡ eqb k 1 && is_set text j w) (P : p ≡ name_place text g) (N : Told (name_answer text k w set p) nn np) where
-          name_same : after_results ≡ name_answer text k w set p
-          unfolding name_answer
-          name_same =
-              ap (λ (x : ℕ). name_answer text x (operand text g 0) (is_set text j (operand text g 0)) (name_place text g)) (sym K)
-              ∙ ap (λ (x : ℕ). name_answer text k x (is_set text j x) (name_place text g)) (sym W)
-              ∙ ap (λ (x : ℕ). name_answer text k w (is_set text j w) x) (sym P)
-              ∙ ap (λ (t : Bool). first_at (asks t 11 (place_at text p 0) ∷ [])) (sym (ask_one k w (is_set text j w) (name_at text p 0)))
-              ∙ ap (λ (t : Bool). name_answer text k w t p) (sym S)
+-- ---- the whole gate, as its parts were handed back
 
-          pub gate_named : Told (gate_answer text j) nn np
-          gate_named =
-              beyond_operands nn np
-              (told_then (first (result_answer text j) 0 (result_count text g)) after_results (sym results_told.number_is ∙ r0) (told_as name_same N))
+module _ (text : List ℕ) (j : ℕ) where
+  -- the numbers of operands and results are refused
+  pub refused_counts : {r : Refusal} → given (counts_answer text j) (counts_of text j) ≡ Err r → Err r ≡ given (gate_answer text j) (gate_of text j)
+  refused_counts e = refused_by (counts_answer text j) (gate_answer text j) (counts_of text j) (gate_of text j) e (gate_counts text j)
+
+  module _ (x : Counts) (C : given (counts_answer text j) (counts_of text j) ≡ Ok x) where
+    abbrev at_gate : ℕ
+    at_gate = gate_at text j
+
+    counted : ((counts_answer text j).number ≡ 0) × (x ≡ counts_of text j)
+    counted = passed (counts_answer text j) (counts_of text j) C
+
+    operands_read : x.operands ≡ operand_count text at_gate
+    unfolding counts_of
+    operands_read = ap (λ (y : Counts). y.operands) counted.1
+
+    results_read : x.results ≡ result_count text at_gate
+    unfolding counts_of
+    results_read = ap (λ (y : Counts). y.results) counted.1
+
+    place_read : x.at ≡ operands_place text at_gate
+    unfolding counts_of
+    place_read = ap (λ (y : Counts). y.at) counted.1
+
+    pub operands_begin : (x.at ≡ operands_place text at_gate) × (x.operands ≡ operand_count text at_gate)
+    operands_begin = (place_read, operands_read)
+
+    -- the operands are refused
+    pub refused_operands : {r : Refusal} → given (first (operand_answer text j) 0 x.operands) (past text x.at x.operands) ≡ Err r → Err r ≡ given (gate_answer text j) (gate_of text j)
+    refused_operands e =
+        refused_by (first (operand_answer text j) 0 x.operands) (gate_answer text j) (past text x.at x.operands) (gate_of text j) e
+        (λ d. let same = ap (first (operand_answer text j) 0) operands_read in gate_operands text j counted.0 (λ z. d (ap (λ (a : Answer). a.number) same ∙ z)) ∙ sym same)
+
+    module _ (o : ℕ) (O : given (first (operand_answer text j) 0 x.operands) (past text x.at x.operands) ≡ Ok o) where
+      operands_passed : ((first (operand_answer text j) 0 x.operands).number ≡ 0) × (o ≡ past text x.at x.operands)
+      operands_passed = passed (first (operand_answer text j) 0 x.operands) (past text x.at x.operands) O
+
+      operands_none : (first (operand_answer text j) 0 (operand_count text at_gate)).number ≡ 0
+      operands_none = ap (λ (k : ℕ). (first (operand_answer text j) 0 k).number) (sym operands_read) ∙ operands_passed.0
+
+      after_operands_is : o ≡ results_place text at_gate
+      after_operands_is = past_operands text at_gate x.at x.operands o place_read operands_read operands_passed.1
+
+      pub results_begin : (o ≡ results_place text at_gate) × (x.results ≡ result_count text at_gate)
+      results_begin = (after_operands_is, results_read)
+
+      -- the results are refused
+      pub refused_results : {r : Refusal} → given (first (result_answer text j) 0 x.results) (past text o x.results) ≡ Err r → Err r ≡ given (gate_answer text j) (gate_of text j)
+      refused_results e =
+          refused_by (first (result_answer text j) 0 x.results) (gate_answer text j) (past text o x.results) (gate_of text j) e
+          (λ d. let same = ap (first (result_answer text j) 0) results_read in gate_results text j counted.0 operands_none (λ z. d (ap (λ (a : Answer). a.number) same ∙ z)) ∙ sym same)
+
+      module _ (n : ℕ) (R : given (first (result_answer text j) 0 x.results) (past text o x.results) ≡ Ok n) where
+        results_passed : ((first (result_answer text j) 0 x.results).number ≡ 0) × (n ≡ past text o x.results)
+        results_passed = passed (first (result_answer text j) 0 x.results) (past text o x.results) R
+
+        results_none : (first (result_answer text j) 0 (result_count text at_gate)).number ≡ 0
+        results_none = ap (λ (k : ℕ). (first (result_answer text j) 0 k).number) (sym results_read) ∙ results_passed.0
+
+        name_begins : n ≡ name_place text at_gate
+        name_begins = past_results text at_gate o x.results n after_operands_is results_read results_passed.1
+
+        -- the name decides
+        pub gate_ends : (t : Token) (set : Bool) → t ≡ token_at text x.at → set ≡ eqb x.operands 1 && is_set text j t.number
+            → given (name_answer text x.operands t.number set n) (named_of text x.results n) ≡ given (gate_answer text j) (gate_of text j)
+        unfolding gate_of
+        gate_ends t set T S =
+            let w : t.number ≡ operand text at_gate 0 = (reading text x.at 0 (sym (past_none text x.at)) T).number_is ∙ ap (λ (p : ℕ). number_at text p 0) place_read in
+            ap (λ (a : Answer). given a (named_of text x.results n)) (gate_named text j counted.0 operands_none results_none x.operands t.number set n operands_read w S name_begins)
+            ∙ ap (λ (k : ℕ). given (gate_answer text j) (named_of text k n)) results_read
+            ∙ ap (λ (p : ℕ). given (gate_answer text j) (named_of text (result_count text at_gate) p)) name_begins
+
+        -- and the bits are those before the gate after it
+        pub holds_after : (bits : List ℕ) → Holds text bits j x.results → Holds text bits (suc j) 0
+        holds_after bits h = holds_next text bits j x.results results_read h
+
+-- what holds anyhow holds of a value handed back
+pub on_ok : {A E P : Type 0} (r : Result A E) → P → OnOk r P
+on_ok (Ok v) h = h
+on_ok (Err e) h = tt

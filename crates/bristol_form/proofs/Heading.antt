@@ -1,24 +1,28 @@
 -- The head's answer, token by token: each test that fails refuses where those before it hold. The chain of checks is rewritten by the tests' values.
 -- Assumes nothing.
-use mathlib.Core.Path.{◌≡◌, refl, ap}
+use mathlib.Core.Path.{◌≡◌, refl, sym, ap, ◌∙◌}
 use mathlib.Core.Bool.{Bool, true, false, ◌||◌}
-use mathlib.Core.List.{List}
+use mathlib.Core.List.{List, [], ◌∷◌}
 use Prim.Native.Nat.{ℕ, ◌+◌, ◌-◌, ◌≤◌, ◌<◌}
 use native.Mathlib.Numerals.{add-one}
 use native.Mathlib.Omega.{arith}
-use borrow.Author.Tests.{le-leb, lt-leb, lt-ltb, le-ltb}
-use lib.Dec.{ltb, eqb}
+use borrow.Author.Tests.{le-leb, lt-leb, lt-ltb, le-ltb, leb-true, ltb-true, ltb-false}
+use lib.Dec.{leb, ltb, eqb}
+use Rattle.std.specs.Prelude.{Result, Ok, Err}
+use Rattle.params.specs.declared.refusal.Refusal.{Refusal}
 use Rattle.params.specs.declared.Answer.{Answer}
-use Rattle.params.specs.Refusal.{answer}
-use Rattle.circuit.specs.Form.{first, first_at}
-use Rattle.tokens.specs.Tokens.{past, number_at, place_at, no_number}
+use Rattle.params.specs.Refusal.{answer, unless, done, outcome}
+use Rattle.params.specs.declared.refusal.Refusal.TheVariants.{Text, Limit}
+use Rattle.circuit.specs.Form.{first, first_at, asks}
+use Rattle.tokens.specs.Tokens.{past, number_at, place_at, token_at, no_number}
+use Rattle.tokens.specs.declared.Token.{Token}
+use Rattle.tokens.proofs.Laws.{past_none}
+use Rattle.tokens.proofs.Reading.{Reading, reading, past_as}
+use Rattle.bristol_form.specs.declared.Sizes.{Sizes}
+use Rattle.bristol_form.proofs.Summed.{sizes_as, sum_as}
 use Rattle.bristol_form.specs.Says.{gates, wires, input_values, sizes_to, input_sizes, inputs, output_values, output_sizes, outputs, body}
 use Rattle.bristol_form.specs.Form.{size_answer, count_fields, value_fields, head_answer, head_limit}
-use Rattle.bristol_form.specs.Private.{Told}
-use Rattle.bristol_form.proofs.Tells.{telling, told_first, told_then}
-
-eleven : ◌≡◌ {A = ℕ} 11 0 → ⊥
-eleven z = omega arith
+use Rattle.circuit.proofs.Accept.{or_done}
 
 module _ (text : List ℕ) where
   -- ---- what the head says, by its places
@@ -92,24 +96,98 @@ module _ (text : List ℕ) (k : Counts text) where
   counts_none : (first_at (count_fields text)).number ≡ 0
   counts_none = ap (λ (a : Answer). a.number) counts_done
 
-  pub inputs_refused : {n p : ℕ} → Told (inputs_answer text) n p → (n ≡ 0 → ⊥) → Told (head_answer text) n p
+  pub inputs_refused : (p : ℕ) → inputs_answer text ≡ record { number = 11; place = p } → head_answer text ≡ record { number = 11; place = p }
   unfolding head_answer
-  inputs_refused t h = told_then (first_at (count_fields text)) _ counts_none (told_first (inputs_answer text) _ t h)
+  inputs_refused p e = or_done (first_at (count_fields text)) _ counts_none ∙ rw e
 
   module _ (i : (inputs_answer text).number ≡ 0) where
-    pub wires_left : (ltb 0 (gates text) || eqb (inputs text) (wires text)) ≡ false → Told (head_answer text) 11 (place_at text 0 (2 + input_values text))
+    pub wires_left : (ltb 0 (gates text) || eqb (inputs text) (wires text)) ≡ false → head_answer text ≡ record { number = 11; place = place_at text 0 (2 + input_values text) }
     unfolding head_answer value_fields
-    wires_left h = told_then (first_at (count_fields text)) _ counts_none (told_then (inputs_answer text) _ i (told_first (first_at (value_fields text)) _ (telling (simp h) refl) eleven))
+    wires_left h = or_done (first_at (count_fields text)) _ counts_none ∙ or_done (inputs_answer text) _ i ∙ simp h
 
-    pub not_outputs : (ltb 0 (gates text) || eqb (inputs text) (wires text)) ≡ true → no_number ≤ output_values text → Told (head_answer text) 11 (place_at text (input_sizes text) (input_values text))
+    pub not_outputs : (ltb 0 (gates text) || eqb (inputs text) (wires text)) ≡ true → no_number ≤ output_values text → head_answer text ≡ record { number = 11; place = place_at text (input_sizes text) (input_values text) }
     unfolding head_answer value_fields
-    not_outputs s h =
-        told_then (first_at (count_fields text)) _ counts_none (told_then (inputs_answer text) _ i (told_first (first_at (value_fields text)) _ (telling (simp (s, le-ltb (output_values text) no_number h)) refl) eleven))
+    not_outputs s h = or_done (first_at (count_fields text)) _ counts_none ∙ or_done (inputs_answer text) _ i ∙ simp (s, le-ltb (output_values text) no_number h)
 
-    pub outputs_told : {n p : ℕ} → (ltb 0 (gates text) || eqb (inputs text) (wires text)) ≡ true → output_values text < no_number → Told (outputs_answer text) n p → Told (head_answer text) n p
+    pub outputs_decide : (ltb 0 (gates text) || eqb (inputs text) (wires text)) ≡ true → output_values text < no_number → head_answer text ≡ outputs_answer text
     unfolding head_answer value_fields
-    outputs_told s h t =
-        told_then (first_at (count_fields text)) _ counts_none (told_then (inputs_answer text) _ i (told_then (first_at (value_fields text)) _ (simp (s, lt-ltb (output_values text) no_number h)) t))
+    outputs_decide s h = or_done (first_at (count_fields text)) _ counts_none ∙ or_done (inputs_answer text) _ i ∙ simp (s, lt-ltb (output_values text) no_number h)
+
+-- ---- the head's tokens, each read behind the one before it
+
+-- the token at a place, which is to be a number
+abbrev pub asked : List ℕ → ℕ → Result Token Refusal
+asked text q = unless (ltb (token_at text q).number no_number) (Text (token_at text q).start) (Ok (token_at text q))
+
+ask_ok : (test : Bool) (r : Refusal) (v : Token) {t : Token} → unless test r (Ok v) ≡ Ok t → (test ≡ true) × (t ≡ v)
+ask_ok true r v e = (refl, cc)
+ask_ok false r v e = absurd cc
+
+ask_err : (test : Bool) (r : Refusal) (v : Token) {x : Refusal} → unless test r (Ok v) ≡ Err x → (test ≡ false) × (x ≡ r)
+ask_err true r v e = absurd cc
+ask_err false r v e = (refl, cc)
+
+-- token i from place p on is a number, or it is none
+pub is_number : (text : List ℕ) (p i : ℕ) {q : ℕ} {t : Token} → q ≡ past text p i → asked text q ≡ Ok t → Reading text p i t × (number_at text p i < no_number)
+is_number text p i {q} {t} e h =
+    let a = ask_ok (ltb (token_at text q).number no_number) (Text (token_at text q).start) (token_at text q) h in
+    let r = reading text p i e a.1 in
+    let l = ltb-true (token_at text q).number no_number a.0 in
+    (r, (let n : number_at text p i ≡ (token_at text q).number = sym r.number_is ∙ ap (λ (u : Token). u.number) a.1 in omega arith))
+
+pub not_number : (text : List ℕ) (p i : ℕ) {q : ℕ} {x : Refusal} → q ≡ past text p i → asked text q ≡ Err x → (no_number ≤ number_at text p i) × (x ≡ Text (place_at text p i))
+not_number text p i {q} {x} e h =
+    let a = ask_err (ltb (token_at text q).number no_number) (Text (token_at text q).start) (token_at text q) h in
+    let r = reading text p i e refl in
+    let l = ltb-false (token_at text q).number no_number a.0 in
+    ((let n = r.number_is in omega arith), a.1 ∙ ap (λ (s : ℕ). Text s) r.start_is)
+
+-- the numbers of gates, wires and input values are read
+pub record Begun (text : List ℕ) (g w n : Token) : Type 0 where
+  pub gates_read : Reading text 0 0 g
+  pub wires_read : Reading text 0 1 w
+  pub values_read : Reading text 0 2 n
+  pub counts : Counts text
+
+pub begun : (text : List ℕ) {g w n : Token} → asked text 0 ≡ Ok g → asked text g.end ≡ Ok w → leb g.number w.number ≡ true → asked text w.end ≡ Ok n → Begun text g w n
+begun text {g} {w} {n} a b l c =
+    let x = is_number text 0 0 (sym (past_none text 0)) a in
+    let y = is_number text 0 1 x.0.end_is b in
+    let z = is_number text 0 2 y.0.end_is c in
+    let m = leb-true g.number w.number l in
+    let u = x.0.number_is in
+    let v = y.0.number_is in
+    record { gates_read = x.0; wires_read = y.0; values_read = z.0; counts = record { gates_fit = x.1; wires_fit = y.1; room = omega arith; values_fit = z.1 } }
+
+-- the answer to the sizes of the input values, by the tokens that were read, and what they say where none is refused
+module _ (text : List ℕ) {g w n : Token} (k : Begun text g w n) where
+  pub inputs_told : {a : Answer} → first (size_answer text n.end 11 (w.number - g.number)) 0 n.number ≡ a → inputs_answer text ≡ a
+  inputs_told t =
+      let u = k.gates_read.number_is in
+      let v = k.wires_read.number_is in
+      let e : w.number - g.number ≡ wires text - gates text = cc in
+      sizes_as text 11 (k.values_read.end_is ∙ input_sizes_lem text) e k.values_read.number_is t
+
+  module _ (s : Sizes) (said : (s.sum ≡ sizes_to text n.end n.number) × (s.at ≡ past text n.end n.number)) where
+    pub inputs_are : s.sum ≡ inputs text
+    inputs_are = sum_as text (k.values_read.end_is ∙ input_sizes_lem text) k.values_read.number_is said.0 ∙ inputs_summed text
+
+    pub values_next : s.at ≡ past text (input_sizes text) (input_values text)
+    values_next = past_as text (k.values_read.end_is ∙ input_sizes_lem text) k.values_read.number_is said.1
+
+    pub set_read : {t : Bool} → t ≡ (ltb 0 g.number || eqb s.sum w.number) → t ≡ (ltb 0 (gates text) || eqb (inputs text) (wires text))
+    set_read h = set_as text k.gates_read.number_is inputs_are k.wires_read.number_is h
+
+    -- the same of the output values
+    module _ {m : Token} (r : Reading text (input_sizes text) (input_values text) m) where
+      pub outputs_told : {a : Answer} → first (size_answer text m.end 11 w.number) 0 m.number ≡ a → outputs_answer text ≡ a
+      outputs_told t = sizes_as text 11 (r.end_is ∙ output_sizes_lem text) k.wires_read.number_is (r.number_is ∙ output_values_lem text) t
+
+      pub outputs_are : {q : ℕ} → q ≡ sizes_to text m.end m.number → q ≡ outputs text
+      outputs_are h = sum_as text (r.end_is ∙ output_sizes_lem text) (r.number_is ∙ output_values_lem text) h ∙ outputs_summed text
+
+      pub body_is : {q : ℕ} → q ≡ past text m.end m.number → q ≡ body text
+      body_is h = past_as text (r.end_is ∙ output_sizes_lem text) (r.number_is ∙ output_values_lem text) h ∙ body_place text
 
 -- ---- the limits
 
@@ -121,19 +199,19 @@ abbrev pub outputs_limit : List ℕ → Answer
 outputs_limit text = first (size_answer text (output_sizes text) 12 64) 0 (output_values text)
 
 module _ (text : List ℕ) where
-  pub inputs_past : {n p : ℕ} → Told (inputs_limit text) n p → (n ≡ 0 → ⊥) → Told (head_limit text) n p
+  pub inputs_past : (p : ℕ) → inputs_limit text ≡ record { number = 12; place = p } → head_limit text ≡ record { number = 12; place = p }
   unfolding head_limit
-  inputs_past t h = told_first (inputs_limit text) _ t h
+  inputs_past p e = rw e
 
-  module _ (i : (inputs_limit text).number ≡ 0) where
-    pub outputs_past : {n p : ℕ} → Told (outputs_limit text) n p → (n ≡ 0 → ⊥) → Told (head_limit text) n p
-    unfolding head_limit
-    outputs_past t h = told_then (inputs_limit text) _ i (told_first (outputs_limit text) _ t h)
+  pub outputs_past : (p : ℕ) → inputs_limit text ≡ answer 0 → outputs_limit text ≡ record { number = 12; place = p } → head_limit text ≡ record { number = 12; place = p }
+  unfolding head_limit
+  outputs_past p i e = rw (i, e)
 
-    pub no_outputs : {p : ℕ} → (outputs_limit text).number ≡ 0 → outputs text ≡ 0 → p ≡ place_at text (input_sizes text) (input_values text + output_values text) → Told (head_limit text) 12 p
-    unfolding head_limit
-    no_outputs o e d = told_then (inputs_limit text) _ i (told_then (outputs_limit text) _ o (telling (rw (le-ltb 0 (outputs text) (omega arith))) d))
-
-    pub within : (outputs_limit text).number ≡ 0 → (outputs text ≡ 0 → ⊥) → Told (head_limit text) 0 0
-    unfolding head_limit
-    within o e = told_then (inputs_limit text) _ i (told_then (outputs_limit text) _ o (telling (rw (lt-ltb 0 (outputs text) (omega arith))) refl))
+  pub outputs_some : (p : ℕ) → inputs_limit text ≡ answer 0 → outputs_limit text ≡ answer 0 → p ≡ place_at text (input_sizes text) (input_values text + output_values text)
+      → unless (ltb 0 (outputs text)) (Limit p) done ≡ outcome (head_limit text)
+  unfolding head_limit
+  outputs_some p i o e = rw (i, o, e) (go (ltb 0 (outputs text)) (place_at text (input_sizes text) (input_values text + output_values text)))
+    where
+      go : (t : Bool) (q : ℕ) → unless t (Limit q) done ≡ outcome (first_at (asks t 12 q ∷ []))
+      go true q = refl
+      go false q = refl

@@ -14,8 +14,6 @@ use Rattle.circuit.proofs.Steps.{first_stop, first_step}
 use Rattle.tokens.specs.Tokens.{number_at, place_at}
 use Rattle.bristol_form.specs.Says.{sizes_to}
 use Rattle.bristol_form.specs.Form.{size_answer}
-use Rattle.bristol_form.specs.Private.{Told}
-use Rattle.bristol_form.proofs.Tells.{told_as}
 
 pub sizes_none : (text : List ℕ) (at : ℕ) → 0 ≡ sizes_to text at 0
 unfolding sizes_to sum_to
@@ -49,10 +47,10 @@ module _ (text : List ℕ) (at number bound count i s t : ℕ) (summed : s ≡ s
   sizes_step h =
       first_step (size_answer text at number bound) i count before (ap (λ (a : Answer). a.number) (under text at number bound i (let w = sizes_next text at i in omega arith)))
 
--- the same sizes, told by other variables
-pub sizes_as : (text : List ℕ) (number : ℕ) {at at' bound bound' count count' n p : ℕ} → at ≡ at' → bound ≡ bound' → count ≡ count'
-    → Told (first (size_answer text at number bound) 0 count) n p → Told (first (size_answer text at' number bound') 0 count') n p
-sizes_as text number a b c t = told_as (cc) t
+-- the same sizes' answer, told by other variables
+pub sizes_as : (text : List ℕ) (number : ℕ) {at at' bound bound' count count' : ℕ} {a : Answer} → at ≡ at' → bound ≡ bound' → count ≡ count'
+    → first (size_answer text at number bound) 0 count ≡ a → first (size_answer text at' number bound') 0 count' ≡ a
+sizes_as text number a b c t = cc
 
 -- the same sum, told by other variables
 pub sum_as : (text : List ℕ) {at at' i i' r : ℕ} → at ≡ at' → i ≡ i' → r ≡ sizes_to text at i → r ≡ sizes_to text at' i'

@@ -1,12 +1,13 @@
 -- The answer that reading a text gives (02, request 2026-02; docs/DECISIONS.md, 'Circuits as text', has each place in words): 11 at the first byte of the first token that the
 -- checks below find at fault, in the text's order; where there is none in the whole text, 12 at the first that shows MAND or a limit of 01 passed. A token that is due and not
 -- there is no number and no name, and its place is the text's length.
-use Rattle.std.specs.Prelude.{Bool, cond, not, ◌&&◌, ◌||◌, List, [], ◌∷◌, ℕ, suc, ◌+◌, ◌-◌, ◌/◌, ◌%◌, leb, ltb, eqb, length}
+use Rattle.std.specs.Prelude.{Bool, Result, cond, not, ◌&&◌, ◌||◌, List, [], ◌∷◌, ℕ, suc, ◌+◌, ◌-◌, ◌/◌, ◌%◌, leb, ltb, eqb, length}
 use Rattle.params.specs.declared.Answer.{Answer}
-use Rattle.params.specs.Refusal.{if_done}
+use Rattle.params.specs.declared.refusal.Refusal.{Refusal}
+use Rattle.params.specs.Refusal.{given}
 use Rattle.circuit.specs.Form.{FieldCheck, asks, first_at, first, or_else}
 use Rattle.tokens.specs.Tokens.{start_of, place_at, no_number, xor_name, and_name, inv_name, eq_name, eqw_name, mand_name}
-use Rattle.bristol_form.specs.declared.Checked.{Checked}
+use Rattle.bristol_form.specs.declared.Contents.{Contents}
 use Rattle.bristol_form.specs.Says.{gates, wires, input_values, sizes_to, input_sizes, inputs, output_values, output_sizes, outputs, body, gate_at, operand_count, result_count, operands_place, results_place, name_place, operand, result, gate_name, set_by, is_set, set_count, made}
 
 -- ---- 11
@@ -126,16 +127,8 @@ limit_answer text = or_else (head_limit text) (first (gate_limit text) 0 (gates 
 unfoldable pub text_answer : List ℕ → Answer
 text_answer text = or_else (form_answer text) (limit_answer text)
 
--- The answer, and what the text says where it is done, else 0.
-unfoldable pub checked_of : List ℕ → Checked
+-- What a text says, where it is not refused: else its refusal.
+unfoldable pub checked_of : List ℕ → Result Contents Refusal
 checked_of text =
-    record {
-      number = (text_answer text).number;
-      place = (text_answer text).place;
-      gates = if_done (text_answer text).number (gates text) 0;
-      wires = if_done (text_answer text).number (wires text) 0;
-      inputs = if_done (text_answer text).number (inputs text) 0;
-      outputs = if_done (text_answer text).number (outputs text) 0;
-      made = if_done (text_answer text).number (made text (gates text)) 0;
-      body = if_done (text_answer text).number (body text) 0;
-    }
+    given (text_answer text)
+    (record { gates = gates text; wires = wires text; inputs = inputs text; outputs = outputs text; made = made text (gates text); body = body text })

@@ -39,12 +39,10 @@ pub(crate) fn put_first(bits: &mut [u8], n: usize)
     ensures bits_len_unchanged { length bits.new ≡ length bits.old }
     ensures each { (v : ℕ) → v < 8 * length bits.old → held_bit bits.new v ≡ held_bit bits.old v || ltb v n }
 {
-    let mut w = 0;
-    while w < n {
+    for w in 0..n {
         if w / 8 >= bits.len() {
             return;
         }
         put_bit(bits, w);
-        w += 1;
     }
 }

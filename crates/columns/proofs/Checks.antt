@@ -13,7 +13,8 @@ module _ (p : Params) (kind count lp lk ls lo : ℕ) where
   column_good e =
       let f = good p (column_checks p kind count lp lk ls lo) refl e in
       record {
-        lent = record { good = f.0; pairs = f.1.0; switching = f.1.1.0; bootstrapping = f.1.1.1.0; least = f.1.1.1.1.1.0; most = f.1.1.1.1.1.1.0 };
+        good = f.0;
+        lent = record { pairs = f.1.0; switching = f.1.1.0; bootstrapping = f.1.1.1.0; least = f.1.1.1.1.1.0; most = f.1.1.1.1.1.1.0 };
         results = f.1.1.1.1.0;
       }
 
@@ -22,4 +23,4 @@ module _ (p : Params) (kind count lp lk ls lo : ℕ) where
   unfolding column_number
   column_done g =
       let t = g.lent in
-      done p (column_checks p kind count lp lk ls lo) (t.good, (t.pairs, (t.switching, (t.bootstrapping, (g.results, (t.least, (t.most, tt)))))))
+      done p (column_checks p kind count lp lk ls lo) (g.good, (t.pairs, (t.switching, (t.bootstrapping, (g.results, (t.least, (t.most, tt)))))))

@@ -119,7 +119,8 @@ module _ (p : Params) (kind : ℕ) (ksk bsk : List ℕ) where
         let c = g.results in
         let d = h.results in
         record {
-          lent = record { good = t.good; pairs = length-append xs ys ∙ omega (arith, a, b); switching = t.switching; bootstrapping = t.bootstrapping; least = t.least; most = t.most };
+          good = g.good;
+          lent = record { pairs = length-append xs ys ∙ omega (arith, a, b); switching = t.switching; bootstrapping = t.bootstrapping; least = t.least; most = t.most };
           results = length-append o q ∙ omega (arith, c, d);
         }
 
@@ -144,7 +145,7 @@ module _ (p : Params) (kind : ℕ) (ksk bsk : List ℕ) where
         when_done _ _ _
         (gate_done p (length first) (length second) (length ksk) (length bsk) (length c)
         (record {
-          good = t.good;
+          good = g.good;
           first = cipher_length p pairs (2 * i) (pair_within p count (2 * i) (length pairs) (omega arith) t.pairs);
           second = cipher_length p pairs (2 * i + 1) (pair_within p count (2 * i + 1) (length pairs) (omega arith) t.pairs);
           switching = t.switching;

@@ -9,6 +9,7 @@ use borrow.Author.Tests.{le-leb}
 use lib.Dec.{leb, eqb, eqb→eq}
 use lib.ListN.{length, get_or}
 use Rattle.params.specs.declared.Params.{Params}
+use Rattle.params.specs.Ranges.{params_number}
 use Rattle.params.specs.Refusal.{if_done}
 use Rattle.params.proofs.Answers.{when_done}
 use Rattle.kinds.proofs.Table.{both, entry}
@@ -89,16 +90,16 @@ unfolding pair_result pair_gate
 result_length p ksk bsk kind pairs i = ran-length p ksk bsk (way_of kind) _ _ _
 
 -- what the code makes of pair i
-pub pair_made : (p : Params) (kind count : ℕ) (pairs ksk bsk o : List ℕ) (i : ℕ) {way : Way} {a b c out : List ℕ} → PairsGood p kind count (length pairs) (length ksk) (length bsk) → i < count
+pub pair_made : (p : Params) (kind count : ℕ) (pairs ksk bsk o : List ℕ) (i : ℕ) {way : Way} {a b c out : List ℕ} → params_number p ≡ 0 → PairsGood p kind count (length pairs) (length ksk) (length bsk) → i < count
     → length o ≡ p.n + 1 → way ≡ way_of kind → a ≡ cipher_at p pairs (2 * i) → b ≡ cipher_at p pairs (2 * i + 1) → c ≡ []
     → out ≡ if_done (way_number p way (length a) (length b) (length c) (length ksk) (length bsk) (length o)) (ran p ksk bsk way a b c) o
     → out ≡ pair_result p ksk bsk kind pairs i
 unfolding pair_result pair_gate
-pair_made p kind count pairs ksk bsk o i g h lo ew ea eb ec e =
+pair_made p kind count pairs ksk bsk o i z g h lo ew ea eb ec e =
     let two = needs_two kind g.least g.most in
     e ∙ rw (ew, ea, eb, ec)
     (when_done _ _ _
-    (way_done p g.good _ _ 0 (length ksk) (length bsk) (length o) g.switching g.bootstrapping lo (way_of kind)
+    (way_done p z _ _ 0 (length ksk) (length bsk) (length o) g.switching g.bootstrapping lo (way_of kind)
     (λ n. cipher_length p pairs (2 * i) (pair_within p count (2 * i) (length pairs) (omega arith) g.pairs))
     (λ n. cipher_length p pairs (2 * i + 1) (pair_within p count (2 * i + 1) (length pairs) (omega arith) g.pairs))
     (λ n. absurd (let f : ⊥ = omega (arith, two, n) in f))))

@@ -1,19 +1,12 @@
--- The refusals taken apart and put together, from the tables' laws, and the offset that a call hands back.
+-- The refusals taken apart and put together, from the tables' laws.
 -- Assumes nothing.
-use mathlib.Core.Path.{◌≡◌, refl, ap, ◌∙◌}
+use mathlib.Core.Path.{◌≡◌, refl}
 use Prim.Native.Nat.{ℕ, ◌+◌, ◌*◌, ◌<◌}
 use Rattle.params.specs.declared.Params.{Params}
 use Rattle.params.specs.Ranges.{params_number}
 use Rattle.params.specs.Sizes.{size}
 use Rattle.refusals.proofs.Table.{good, done}
-use Rattle.key.specs.declared.Offset.{Offset}
-use Rattle.key.specs.Offset.{offset, offset_out}
-use Rattle.key.proofs.Checks.{offset_done}
 use Rattle.decomposition.specs.Pair.{polynomial_checks, polynomial_number, decomposition_checks, decomposition_number}
-
--- the value beside an answer of 0
-pub offset-value : (p : Params) → params_number p ≡ 0 → {o : Offset} → o ≡ offset_out p → o.value.0 ≡ offset p
-offset-value p z e = ap (λ (o : Offset). o.value.0) e ∙ offset_done p z
 
 -- ---- what holds of a call that is not refused
 

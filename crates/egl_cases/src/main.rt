@@ -55,16 +55,12 @@ fn kind_of(only: u8, own: usize, g: usize) -> u8
 
 // How many operands a kind needs.
 fn needed(kind: u8) -> u8 {
-    if kind < 2 {
-        return 0;
+    match kind {
+        0 | 1 => 0,
+        2 => 1,
+        13 => 3,
+        _ => 2,
     }
-    if kind == 2 {
-        return 1;
-    }
-    if kind == 13 {
-        return 3;
-    }
-    2
 }
 
 // A wire, where operand x is needed, else 0.
@@ -81,7 +77,7 @@ fn put_gate(out: &mut [u8], only: u8, own: usize, g: usize)
 {
     let at = 11 + 8 * g;
     let kind = kind_of(only, own, g);
-    let before = if 0 < own { own - 1 } else { 0 };
+    let before = own.saturating_sub(1);
     put(out, at, kind);
     put_field(out, at + 2, operand(kind, 0, own / 3));
     put_field(out, at + 4, operand(kind, 1, before));
@@ -92,10 +88,8 @@ fn put_gate(out: &mut [u8], only: u8, own: usize, g: usize)
 fn put_gates(out: &mut [u8], only: u8, inputs: usize, gates: usize)
     requires { (inputs ≤ 300) × (gates ≤ 1100) }
 {
-    let mut g = 0;
-    while g < gates {
+    for g in 0..gates {
         put_gate(out, only, inputs + g, g);
-        g += 1;
     }
 }
 
@@ -103,14 +97,8 @@ fn put_gates(out: &mut [u8], only: u8, inputs: usize, gates: usize)
 fn put_outputs(out: &mut [u8], wires: usize, gates: usize, outputs: usize)
     requires { (gates ≤ 1100) × (outputs ≤ 100) }
 {
-    let mut o = 0;
-    while o < outputs {
-        put_field(
-            out,
-            11 + 8 * gates + 2 * o,
-            if o < wires { wires - o - 1 } else { 0 },
-        );
-        o += 1;
+    for o in 0..outputs {
+        put_field(out, 11 + 8 * gates + 2 * o, wires.saturating_sub(o + 1));
     }
 }
 
@@ -150,9 +138,12 @@ fn case(
     case_of(output, 14, inputs, gates, outputs, place, value, count)
 }
 
-// 01's example, which the rule gives for these counts, with a byte changed.
-fn example(output: &mut impl Write, place: usize, value: u8) -> io::Result<()> {
-    case(output, 2, 1, 1, place, value, 21)
+// 01's example, which the rule gives for these counts, with a byte changed: for each place and value of a list.
+fn examples(output: &mut impl Write, changes: &[(usize, u8)]) -> io::Result<()> {
+    for (place, value) in changes {
+        case(output, 2, 1, 1, *place, *value, 21)?;
+    }
+    Ok(())
 }
 
 // Lengths: nothing, too short for a head, and each side of the right one.
@@ -165,16 +156,6 @@ fn lengths(output: &mut impl Write) -> io::Result<()> {
     case(output, 2, 1, 1, 9999, 0, 22)
 }
 
-// The mark and the version.
-fn marks(output: &mut impl Write) -> io::Result<()> {
-    example(output, 0, 70)?;
-    example(output, 1, 0)?;
-    example(output, 2, 77)?;
-    example(output, 3, 2)?;
-    example(output, 3, 0)?;
-    example(output, 4, 1)
-}
-
 // The counts, each side of their ends.
 fn counts(output: &mut impl Write) -> io::Result<()> {
     case(output, 256, 0, 1, 9999, 0, 13)?;
@@ -184,39 +165,6 @@ fn counts(output: &mut impl Write) -> io::Result<()> {
     case(output, 1, 0, 0, 9999, 0, 11)?;
     case(output, 1, 0, 64, 9999, 0, 139)?;
     case(output, 1, 0, 65, 9999, 0, 141)
-}
-
-// A gate's fields.
-fn fields(output: &mut impl Write) -> io::Result<()> {
-    example(output, 11, 14)?;
-    example(output, 12, 1)?;
-    example(output, 13, 2)?;
-    example(output, 14, 1)?;
-    example(output, 15, 2)?;
-    example(output, 17, 1)?;
-    example(output, 18, 1)
-}
-
-// The kinds, the operands of a nand being there.
-fn kinds(output: &mut impl Write) -> io::Result<()> {
-    example(output, 11, 0)?;
-    example(output, 11, 2)?;
-    example(output, 11, 3)?;
-    example(output, 11, 4)?;
-    example(output, 11, 6)?;
-    example(output, 11, 7)?;
-    example(output, 11, 8)
-}
-
-// The other kinds, and the output.
-fn more_kinds(output: &mut impl Write) -> io::Result<()> {
-    example(output, 11, 9)?;
-    example(output, 11, 10)?;
-    example(output, 11, 11)?;
-    example(output, 11, 12)?;
-    example(output, 11, 13)?;
-    example(output, 19, 3)?;
-    example(output, 20, 1)
 }
 
 // Tables: no wire at all, no inputs, one, four and five inputs, every kind, many outputs, the largest circuit and a byte more.
@@ -239,14 +187,40 @@ fn muxes(output: &mut impl Write) -> io::Result<()> {
     case_of(output, 13, 256, 1024, 64, 9999, 0, 8331)
 }
 
+// The mark and the version.
+const MARKS: [(usize, u8); 6] = [(0, 70), (1, 0), (2, 77), (3, 2), (3, 0), (4, 1)];
+
+// A gate's fields; its kinds, the operands of a nand being there; and the output.
+const GATES: [(usize, u8); 21] = [
+    (11, 14),
+    (12, 1),
+    (13, 2),
+    (14, 1),
+    (15, 2),
+    (17, 1),
+    (18, 1),
+    (11, 0),
+    (11, 2),
+    (11, 3),
+    (11, 4),
+    (11, 6),
+    (11, 7),
+    (11, 8),
+    (11, 9),
+    (11, 10),
+    (11, 11),
+    (11, 12),
+    (11, 13),
+    (19, 3),
+    (20, 1),
+];
+
 fn main(rt: HostRuntime) -> io::Result<()> {
     let output = &mut rt.stdout();
     lengths(output)?;
-    marks(output)?;
+    examples(output, &MARKS)?;
     counts(output)?;
-    fields(output)?;
-    kinds(output)?;
-    more_kinds(output)?;
+    examples(output, &GATES)?;
     tables(output)?;
     muxes(output)
 }

@@ -10,8 +10,12 @@ use native.Mathlib.Omega.{arith}
 use lib.Dec.{eqb}
 use lib.ListN.{length, set, length-set}
 use lib.Seq.{get_or-set_same, get_or-set_other}
+use lib.IntN.{ℤ, pos, negsuc}
+use mir.Syntax.{w32}
+use mir.Val.{SFits, of_z}
 use borrow.Author.Tests.{eq-eqb, ne_eqb}
-use Rattle.ring.specs.Word.{Q, at, eighth}
+use Rattle.ring.specs.Word.{Q, at, neg, eighth}
+use Rattle.ring.specs.Centre.{word_of}
 use Rattle.ring.specs.Sums.{tab}
 use Rattle.ring.specs.Poly.{plus, scale}
 use Rattle.ring.specs.Phase.{trivial}
@@ -26,6 +30,14 @@ use Rattle.gate_sums.specs.declared.Kind.{Kind}
 use Rattle.gate_sums.specs.declared.Weights.{Weights}
 use Rattle.gate_sums.specs.Weights.{weights_of}
 use Rattle.gate_sums.specs.Sum.{summed, mux_sum, constant_word, constant_of}
+
+-- ---- rows
+
+-- a signed word's bits are its number modulo 2^32
+pub as_word : (z : ℤ) → SFits w32 z → of_z w32 z ≡ word_of z
+unfolding Q neg
+as_word (pos n) f = let h = f.sfits in omega arith
+as_word (negsuc n) f = let h = f.sfits in omega arith
 
 -- ---- one store
 

@@ -1,28 +1,35 @@
 #![tactic(auto)]
 // A two-input gate (src/gates.rs): its sample, switched back to level 0.
 ghost use Rattle.std.specs.Prelude.{◌≡◌, length};
-ghost use Rattle.params.specs.Refusal.{answer};
+ghost use Rattle.params.specs.Refusal.{answer, outcome, given};
 ghost use Rattle.gates.specs.Refusals.{gate_number};
 ghost use Rattle.gates.specs.Gate.{gate_out};
 
 use gate_sums::Kind;
-use params::{Answer, Params};
+use params::{Checked, Params, Refusal};
 
-mod boot;
-
-// The refusal of a two-input gate, or 0.
-fn gate_number(p: Params, la: usize, lb: usize, lk: usize, ls: usize, lo: usize) -> u32
-    ensures { result ≡ gate_number p la lb lk ls lo }
+#[tactic(auto, unfolding(crate::specs::Refusals::gate_number))]
+// The checks of a two-input gate.
+fn gate_checks(
+    p: Params,
+    a: &[u32],
+    b: &[u32],
+    ksk: &[u32],
+    bsk: &[u32],
+    out: &[u32],
+) -> Result<Checked, Refusal>
+    ensures { result ≡ given (answer (gate_number p (length a.now) (length b.now) (length ksk.now) (length bsk.now) (length out.now))) p }
 {
-    let s = params::sizes_of(p);
-    let number = refusals::is(s.number, la, s.level0, 2);
-    let number = refusals::is(number, lb, s.level0, 2);
-    let number = refusals::is(number, lk, s.ksk, 2);
-    let number = refusals::is(number, ls, s.bsk, 2);
-    refusals::is(number, lo, s.level0, 2)
+    let p = params::check(p)?;
+    Refusal::Length.unless(a.len() == p.sizes.level0)?;
+    Refusal::Length.unless(b.len() == p.sizes.level0)?;
+    Refusal::Length.unless(ksk.len() == p.sizes.ksk)?;
+    Refusal::Length.unless(bsk.len() == p.sizes.bsk)?;
+    Refusal::Length.unless(out.len() == p.sizes.level0)?;
+    Ok(p)
 }
 
-// A two-input gate: its kind's sum of a and b, rotated, extracted at 0 and switched. Refusals: 1, 2.
+/// A two-input gate: its kind's sum of a and b, rotated, extracted at 0 and switched, with the sample of level 1 in scratch. Refusals: 1, 2.
 pub fn gate(
     p: Params,
     kind: Kind,
@@ -31,13 +38,13 @@ pub fn gate(
     ksk: &[u32],
     bsk: &[u32],
     out: &mut [u32],
-) -> Answer
-    ensures said { result ≡ answer (gate_number p (length a.now) (length b.now) (length ksk.now) (length bsk.now) (length out.old)) }
+) -> Result<(), Refusal>
+    ensures said { result ≡ outcome (answer (gate_number p (length a.now) (length b.now) (length ksk.now) (length bsk.now) (length out.old))) }
     ensures written { out.new ≡ gate_out p kind a.now b.now ksk.now bsk.now out.old }
 {
-    let number = gate_number(p, a.len(), b.len(), ksk.len(), bsk.len(), out.len());
-    if number == 0 {
-        boot::put_gate(p, kind, a, b, ksk, bsk, out);
-    }
-    Answer { number, place: 0 }
+    let words = gate_checks(p, a, b, ksk, bsk, out)?.sizes.level1;
+    let mut scratch = [0u32; 1025];
+    let sample = &mut scratch[..words];
+    samples::sample(p, kind, a, b, bsk, sample)?;
+    switching::identity_key_switching(p, sample, ksk, out)
 }

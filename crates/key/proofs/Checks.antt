@@ -1,43 +1,50 @@
 -- The refusals of this crate's routines: what arguments that are not refused have, and that such arguments are not refused, from the tables' laws.
 -- Assumes nothing.
-use mathlib.Core.Path.{◌≡◌, refl, ap, ◌∙◌}
-use Prim.Native.Nat.{ℕ, ◌%◌, ◌≤◌, ◌<◌}
-use native.Mathlib.Decide.{ℕ_discrete}
+use mathlib.Core.Path.{◌≡◌, refl, sym, ◌∙◌}
+use Prim.Native.Nat.{ℕ, ◌+◌, ◌-◌, ◌*◌, ◌≤◌, ◌<◌}
 use mathlib.Core.Bool.{Bool, true, false}
-use mathlib.Core.List.{List, [], ◌∷◌}
-use borrow.Author.Tests.{eq-eqb, ne_eqb}
+use mathlib.Core.List.{List, []}
+use borrow.Author.Tests.{eq-eqb}
 use lib.Dec.{ltb}
-use lib.ListN.{length}
-use Rattle.ring.specs.Word.{Q}
+use Rattle.std.specs.Prelude.{Ok}
+use lib.ListN.{length, take, drop}
+use Rattle.ring.proofs.Parts.{slice_part}
 use Rattle.params.specs.declared.Params.{Params}
-use Rattle.params.specs.declared.Sizes.{Sizes}
-use Rattle.params.specs.Refusal.{check}
+use Rattle.params.specs.declared.Answer.{Answer}
+use Rattle.params.specs.Refusal.{check, answer, given, if_done}
 use Rattle.params.specs.Ranges.{params_number, InRange}
-use Rattle.params.specs.Sizes.{size, base, bit_words, sizes_of, sizes_in, switching_words, bootstrapping_words}
-use Rattle.params.proofs.Answers.{when_done}
-use Rattle.params.proofs.Ranges.{in_range, sizes_good}
+use Rattle.params.specs.Sizes.{size, base, bit_words, switching_words, bootstrapping_words}
+use Rattle.params.proofs.Answers.{when_done, given_done, given_ok}
+use Rattle.params.specs.Private.{fits}
+use Rattle.params.proofs.Ranges.{in_range, number_fits, number_unfit}
 use Rattle.key.specs.Offset.{offset, offset_out}
 use Rattle.key.specs.Testvec.{test_checks, test_number}
 use Rattle.tlwe.specs.Key.{binary}
-use Rattle.refusals.specs.Table.{Check, is, below, refusal_by}
-use Rattle.refusals.specs.Private.{chain}
-use Rattle.refusals.proofs.Table.{chained, good, done}
-use Rattle.key.specs.Switching.{lookup_checks, lookup_number}
-use Rattle.key.specs.Bits.{bit_rows_checks, bit_rows_number}
+use Rattle.refusals.proofs.Table.{good, done}
+use Rattle.key.specs.Switching.{row_index, row_part, lookup_checks, lookup_number}
+use Rattle.key.specs.Bits.{bit_rows, bit_rows_checks, bit_rows_number}
 use Rattle.key.specs.Generation.{generate_checks, generate_number}
 use Rattle.key.specs.Private.{Lent}
-use Rattle.key.proofs.Rows.{base_code}
+use Rattle.key.proofs.Rows.{row_end, row_ends}
 
--- one bit's words, from the record of lengths
-pub bit_of : (p : Params) → params_number p ≡ 0 → {s : Sizes} → s ≡ sizes_of p → s.bit ≡ bit_words p
-bit_of p z e = ap (λ (x : Sizes). x.bit) (e ∙ sizes_good p z)
+-- the parameters' number is 0 or 1
+pub number_one : (p : Params) → (params_number p ≡ 0 → ⊥) → params_number p ≡ 1
+number_one p h = go (fits p) refl
+  where
+    go : (b : Bool) → fits p ≡ b → params_number p ≡ 1
+    go true e = absurd (h (number_fits p e))
+    go false e = number_unfit p e
+
+-- what is given is the value
+given_is : {A : Type 0} (a : Answer) (v : A) {w : A} → given a v ≡ Ok w → v ≡ w
+given_is a v e = let d = given_done a v (given_ok a v e) in cc
 
 -- ---- the offset
 
 -- for callers: parameters in range give the offset
-pub offset_done : (p : Params) → params_number p ≡ 0 → (offset_out p).value.0 ≡ offset p
+pub offset_done : (p : Params) → params_number p ≡ 0 → offset_out p ≡ Ok (record { 0 = offset p })
 unfolding offset_out
-offset_done p e = when_done (params_number p) (offset p) 0 e
+offset_done p e = given_done (answer (params_number p)) (record { 0 = offset p }) e
 
 -- ---- the test vector
 
@@ -77,6 +84,22 @@ pub lookup_done : (p : Params) (len i j k : ℕ) → params_number p ≡ 0 → l
 unfolding lookup_number
 lookup_done p len i j k e l hi hj from hk = done p (lookup_checks p len i j k) (e, (l, (hi, (hj, (from, (hk, tt))))))
 
+-- the row whose place a lookup gives lies within the key, and is the row's part of it
+pub row_within : (p : Params) (len i j k : ℕ) {row : ℕ} → given (answer (lookup_number p len i j k)) (row_index p i j k) ≡ Ok row → row * (p.n + 1) + (p.n + 1) ≤ len
+row_within p len i j k {row} e =
+    let a = answer (lookup_number p len i j k) in
+    let l = lookup_good p len i j k (given_ok a (row_index p i j k) e) in
+    let r : row_index p i j k ≡ row = given_is a (row_index p i j k) e in
+    rw (sym r, l.key) (row_end p i j k l.outer l.field l.digit_from l.digit)
+
+pub row_handed : (p : Params) (key : List ℕ) (i j k : ℕ) {row w : ℕ} → given (answer (lookup_number p (length key) i j k)) (row_index p i j k) ≡ Ok row → w ≡ p.n + 1
+    → take (row * w + w - row * w) (drop (row * w) key) ≡ if_done (lookup_number p (length key) i j k) (row_part p key i j k) []
+unfolding row_part
+row_handed p key i j k {row} {w} e n =
+    let a = answer (lookup_number p (length key) i j k) in
+    let r : row_index p i j k ≡ row = given_is a (row_index p i j k) e in
+    slice_part key (row * w) w ∙ rw (n, sym r) (sym (when_done _ _ _ (given_ok a (row_index p i j k) e)))
+
 -- and k = 0 is refused with 3, whatever i and j
 pub lookup_at_zero : (p : Params) (i j k : ℕ) → params_number p ≡ 0 → k ≡ 0 → lookup_number p (switching_words p) i j k ≡ 3
 unfolding lookup_number
@@ -86,27 +109,6 @@ lookup_at_zero p i j k e z = rw (eq-eqb (params_number p) 0 e, eq-eqb (switching
     go true true = refl
     go true false = refl
     go false b = refl
-
--- the code's chain, BASE being what `ring::power` gives: in range it is BASE, and out of range nothing hangs on it
-abbrev lookup_by : Params → ℕ → ℕ → ℕ → ℕ → ℕ → Sizes → List Check
-lookup_by p b len i j k s = is len s.ksk 2 ∷ below i s.size 3 ∷ below j p.t 3 ∷ below 0 k 3 ∷ below k b 3 ∷ []
-
-pub lookup_chained : (p : Params) (len i j k : ℕ) {b : ℕ} {s : Sizes} → b ≡ base p % Q → s ≡ sizes_of p → chain s.number (lookup_by p b len i j k s) ≡ lookup_number p len i j k
-unfolding lookup_number
-lookup_chained p len i j k {b} eb e = chained p (lookup_by p b len i j k) refl e ∙ go (ℕ_discrete (params_number p) 0)
-  where
-    go : Dec (params_number p ≡ 0) → refusal_by p (lookup_by p b len i j k (sizes_in p)) ≡ lookup_number p len i j k
-    go (yes z) = ap (λ (x : ℕ). refusal_by p (lookup_by p x len i j k (sizes_in p))) (base_code p (in_range p z) eb)
-    go (no h) = simp (ne_eqb (params_number p) 0 h)
-
--- the length that `row_index` has from the record is the stated one wherever it is asked for
-pub lookup_sized : (p : Params) {s : Sizes} → s ≡ sizes_of p → (i j k : ℕ) → lookup_number p s.ksk i j k ≡ lookup_number p (switching_words p) i j k
-unfolding lookup_number
-lookup_sized p {s} e i j k = go (ℕ_discrete (params_number p) 0)
-  where
-    go : Dec (params_number p ≡ 0) → lookup_number p s.ksk i j k ≡ lookup_number p (switching_words p) i j k
-    go (yes z) = ap (λ (n : ℕ). lookup_number p n i j k) (ap (λ (x : Sizes). x.ksk) (e ∙ sizes_good p z))
-    go (no h) = simp (ne_eqb (params_number p) 0 h)
 
 -- ---- the lookup of a bit's rows
 
@@ -118,6 +120,19 @@ pub record BitGood (p : Params) (len i : ℕ) : Type 0 where
 pub bit_good : (p : Params) (len i : ℕ) → bit_rows_number p len i ≡ 0 → BitGood p len i
 unfolding bit_rows_number
 bit_good p len i e = let f = good p (bit_rows_checks p len i) refl e in record { range = f.0; key = f.1.0; index = f.1.1.0 }
+
+pub bit_within : (p : Params) (len i : ℕ) {q : Params} → given (answer (bit_rows_number p len i)) p ≡ Ok q → i * bit_words p + bit_words p ≤ len
+bit_within p len i e =
+    let l = bit_good p len i (given_ok (answer (bit_rows_number p len i)) p e) in
+    rw l.key (row_ends i p.n (bit_words p) l.index)
+
+pub bit_handed : (p : Params) (key : List ℕ) (i : ℕ) {q : Params} {w : ℕ} → given (answer (bit_rows_number p (length key) i)) p ≡ Ok q → w ≡ bit_words q
+    → take (i * w + w - i * w) (drop (i * w) key) ≡ if_done (bit_rows_number p (length key) i) (bit_rows p key i) []
+unfolding bit_rows
+bit_handed p key i {q} {w} e n =
+    let a = answer (bit_rows_number p (length key) i) in
+    let s : p ≡ q = given_is a p e in
+    slice_part key (i * w) w ∙ rw (n, sym s) (sym (when_done _ _ _ (given_ok a p e)))
 
 -- for callers: good arguments are not refused
 pub bit_done : (p : Params) (len i : ℕ) → params_number p ≡ 0 → len ≡ bootstrapping_words p → i < p.n → bit_rows_number p len i ≡ 0

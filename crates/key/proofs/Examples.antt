@@ -1,10 +1,12 @@
--- The offset by its sum and by its rule, and values beside refusals: computed. The switching key has its own cases (SwitchingExamples).
+-- The offset by its sum and by its rule, and what stands in place of a value where a call is refused: computed. The switching key has its own cases (SwitchingExamples).
 -- Assumes nothing.
 use mathlib.Core.Path.{◌≡◌, refl}
 use Prim.Native.Nat.{ℕ}
 use Rattle.ring.specs.Word.{Q}
 use Rattle.ring.specs.Sums.{sum_to}
+use Rattle.std.specs.Prelude.{Err}
 use Rattle.params.specs.declared.Params.{Params}
+use Rattle.params.specs.declared.refusal.Refusal.TheVariants.{Parameters, Index}
 use Rattle.params.specs.Ranges.{params_number}
 use Rattle.params.specs.Published.{numbers, security128, uint1}
 use Rattle.key.specs.Offset.{offset, offset_out}
@@ -25,12 +27,9 @@ pub offsets : Both security128 0x82080000
 unfolding offset offset_rule sum_to Q
 offsets = ((refl, refl), (refl, refl), (refl, refl), (refl, refl), (refl, refl), (refl, refl), (refl, refl))
 
--- beside a refusal a value is 0: n 0; a row of the digit 2 where BASE is 2; and one of the digit 0
-pub beside : ((offset_out (numbers 0 1 6 3 1 1)).answer.number ≡ 1)
-    × ((offset_out (numbers 0 1 6 3 1 1)).value.0 ≡ 0)
-    × ((place_out (numbers 1 1 1 1 1 1) 0 0 2).answer.number ≡ 3)
-    × ((place_out (numbers 1 1 1 1 1 1) 0 0 2).value ≡ 0)
-    × ((place_out (numbers 1 1 1 1 1 1) 1 0 0).answer.number ≡ 3)
-    × ((place_out (numbers 1 1 1 1 1 1) 1 0 0).value ≡ 0)
+-- where refused there is the refusal and no value: n 0; a row of the digit 2 where BASE is 2; and one of the digit 0
+pub beside : (offset_out (numbers 0 1 6 3 1 1) ≡ Err Parameters)
+    × (place_out (numbers 1 1 1 1 1 1) 0 0 2 ≡ Err Index)
+    × (place_out (numbers 1 1 1 1 1 1) 1 0 0 ≡ Err Index)
 unfolding offset_out place_out params_number lookup_number
-beside = (refl, refl, refl, refl, refl, refl)
+beside = (refl, refl, refl)

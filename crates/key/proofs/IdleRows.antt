@@ -2,25 +2,18 @@
 -- rows reads the same. And what the code reckons on the way. Products of bounds, division with remainder, and the refusals by the tables' laws.
 -- Assumes nothing.
 use mathlib.Core.Path.{◌≡◌, refl, ap, ◌∙◌}
-use mathlib.Core.List.{List, [], ◌∷◌}
+use mathlib.Core.List.{List}
 use Prim.Native.Nat.{ℕ, ◌+◌, ◌*◌, ◌-◌, ◌/◌, ◌%◌, ◌≤◌, ◌<◌}
-use native.Mathlib.Nat.{mul-le-mul, mul-lt-mul_of_pos_left, mul-lt-mul_of_pos_right, mod-eq_of_lt}
-use native.Mathlib.Decide.{ℕ_discrete}
+use native.Mathlib.Nat.{mul-le-mul, mul-lt-mul_of_pos_left, mul-lt-mul_of_pos_right}
 use native.Mathlib.Omega.{arith}
-use borrow.Author.Tests.{ne_eqb}
 use lib.ListN.{length}
-use Rattle.ring.specs.Word.{Q}
-use Rattle.ring.proofs.Words.{mul-mod_l, mul-mod_r}
 use Rattle.ring.proofs.Parts.{part_length}
 use Rattle.ring.proofs.Joins.{length-joined, joined-part}
 use Rattle.params.specs.declared.Params.{Params}
-use Rattle.params.specs.declared.Sizes.{Sizes}
 use Rattle.params.specs.Ranges.{params_number, InRange}
-use Rattle.params.specs.Sizes.{size, base, sizes_of, sizes_in, switching_rows, switching_words}
+use Rattle.params.specs.Sizes.{size, base, switching_rows, switching_words}
 use Rattle.params.proofs.Ranges.{in_range, size_from, base_from, size_to, base_to, t_to}
-use Rattle.refusals.specs.Table.{Check, is, refusal_by}
-use Rattle.refusals.specs.Private.{chain}
-use Rattle.refusals.proofs.Table.{chained, good, done}
+use Rattle.refusals.proofs.Table.{good, done}
 use Rattle.key.specs.Switching.{row_index, row_part}
 use Rattle.key.specs.Generation.{row_outer, row_field, row_digit}
 use Rattle.key.specs.Former.{former_words, former_index, former_row, without_idle, drop_checks, drop_number}
@@ -84,22 +77,26 @@ pub former_code : (p : Params) (r : ℕ) {b : ℕ} → b ≡ base p → b * (r /
 unfolding former_index row_outer row_field row_digit
 former_code p r {b} e = rw e (let x = ap (λ (y : ℕ). base p * y) (pair_of (base p - 1) p.t r) in omega arith)
 
--- its words, modulo 2^32
-pub words_code : (p : Params) {a f b r s w : ℕ} → a ≡ size p % Q → f ≡ a * p.t % Q → b ≡ base p % Q → r ≡ f * b % Q → s ≡ (p.n + 1) % Q → w ≡ r * s % Q → w ≡ former_words p % Q
-words_code p {a} {f} {b} {r} {s} {w} ea ef eb er es ew =
-    let f' : f ≡ size p * p.t % Q = ef ∙ ap (λ (x : ℕ). x * p.t % Q) ea ∙ mul-mod_l (size p) p.t in
-    let r' : r ≡ size p * p.t * base p % Q =
-    er ∙ ap (λ (x : ℕ). x * b % Q) f' ∙ mul-mod_l (size p * p.t) b ∙ ap (λ (x : ℕ). size p * p.t * x % Q) eb ∙ mul-mod_r (size p * p.t) (base p)
-    in
-    ew ∙ ap (λ (x : ℕ). x * s % Q) r' ∙ mul-mod_l (size p * p.t * base p) s ∙ ap (λ (x : ℕ). size p * p.t * base p * x % Q) es ∙ mul-mod_r (size p * p.t * base p) (p.n + 1)
-
 -- parameters in range have fewer
-pub former_small : (p : Params) → InRange p → former_words p < Q
-unfolding Q
+pub former_small : (p : Params) → InRange p → former_words p ≤ 2164654080
 former_small p range =
     let m : p.n + 1 ≤ 1101 = let h = range.n_to in omega arith in
     let h = mul-le-mul (mul-le-mul (mul-le-mul (size_to p range) (t_to p range)) (base_to p range)) m in
     omega arith
+
+pub rows_small : (p : Params) → InRange p → size p * p.t * base p ≤ 1966080
+rows_small p range = let h = mul-le-mul (mul-le-mul (size_to p range) (t_to p range)) (base_to p range) in omega arith
+
+-- so is a place
+pub place_fits : (p : Params) (r : ℕ) → InRange p → r < switching_rows p → {b : ℕ} → b ≡ base p → b * (r / (b - 1)) + (r % (b - 1) + 1) ≤ 1966080
+place_fits p r range h e =
+    let f = former_below p _ _ _ (outer_below p range r h) (field_below p range r) (digit_below p range r) in
+    rw (former_code p r e) (omega (arith, rows_small p range, f))
+
+-- and a row ends within the key
+pub former_within : (p : Params) (r : ℕ) → InRange p → r < switching_rows p → {a len : ℕ} → a ≡ former_index p (row_outer p r) (row_field p r) (row_digit p r) → len ≡ former_words p
+    → a * (p.n + 1) + (p.n + 1) ≤ len
+former_within p r range h e l = rw (e, l) (former_end p _ _ _ (outer_below p range r h) (field_below p range r) (digit_below p range r))
 
 -- ---- the refusals
 
@@ -116,15 +113,3 @@ drop_good p former out e = let f = good p (drop_checks p former out) refl e in r
 pub drop_done : (p : Params) (former out : ℕ) → params_number p ≡ 0 → former ≡ former_words p → out ≡ switching_words p → drop_number p former out ≡ 0
 unfolding drop_number
 drop_done p former out e l o = done p (drop_checks p former out) (e, (l, (o, tt)))
-
--- the code's chain, its words being those modulo 2^32: in range they are the words, and out of range nothing hangs on them
-abbrev drop_by : ℕ → ℕ → ℕ → Sizes → List Check
-drop_by w former out s = is former w 2 ∷ is out s.ksk 2 ∷ []
-
-pub drop_chained : (p : Params) (former out : ℕ) {w : ℕ} {s : Sizes} → w ≡ former_words p % Q → s ≡ sizes_of p → chain s.number (drop_by w former out s) ≡ drop_number p former out
-unfolding drop_number
-drop_chained p former out {w} ew e = chained p (drop_by w former out) refl e ∙ go (ℕ_discrete (params_number p) 0)
-  where
-    go : Dec (params_number p ≡ 0) → refusal_by p (drop_by w former out (sizes_in p)) ≡ drop_number p former out
-    go (yes z) = ap (λ (x : ℕ). refusal_by p (drop_by x former out (sizes_in p))) (ew ∙ mod-eq_of_lt (former_small p (in_range p z)))
-    go (no h) = simp (ne_eqb (params_number p) 0 h)

@@ -6,6 +6,7 @@ use Prim.Native.Nat.{ℕ, zero, suc, ◌+◌, ◌-◌, ◌*◌, ◌/◌, ◌%◌
 use native.Mathlib.Nat.{one-mul, mul-le-mul_right, mul-mod_left, mul-div_cancel, mul-div_assoc, mod-eq_of_lt, div-lt_iff_lt-mul, dvd_of_mod-eq-zero}
 use native.Mathlib.Omega.{arith}
 use lib.Pow.{pow-add, pow_pos, pow_mono}
+use Rattle.std.specs.Prelude.{Ok}
 use Rattle.ring.specs.Word.{Q}
 use Rattle.ring.specs.Sums.{sum_to}
 use Rattle.params.specs.declared.Params.{Params}
@@ -103,5 +104,5 @@ module _ (p : Params) (r : InRange p) where
   divided_first = mul-div_assoc divisor (2 ^ (31 + p.bgbit - p.l * p.bgbit)) (dvd_of_mod-eq-zero divisor no_remainder_alone)
 
 -- What a call hands back where it does not refuse.
-pub told_is_rule : (p : Params) → params_number p ≡ 0 → (offset_out p).value.0 ≡ offset_rule p
-told_is_rule p z = offset_done p z ∙ offset_is_rule p (in_range p z)
+pub told_is_rule : (p : Params) → params_number p ≡ 0 → offset_out p ≡ Ok (record { 0 = offset_rule p })
+told_is_rule p z = offset_done p z ∙ ap (λ (n : ℕ). Ok (record { 0 = n })) (offset_is_rule p (in_range p z))

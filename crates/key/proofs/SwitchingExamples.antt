@@ -4,6 +4,8 @@
 use mathlib.Core.Path.{◌≡◌, refl}
 use mathlib.Core.List.{[], ◌∷◌}
 use Prim.Native.Nat.{◌+◌, ◌*◌}
+use Rattle.std.specs.Prelude.{Err}
+use Rattle.params.specs.declared.refusal.Refusal.TheVariants.{Parameters}
 use Rattle.ring.specs.Word.{Q}
 use Rattle.ring.specs.Sums.{sum_to, tab}
 use Rattle.ring.specs.Phase.{inner}
@@ -77,7 +79,7 @@ pub generations : (generate_number six (1 ∷ []) (1 ∷ 0 ∷ []) 6 6 12 ≡ 0)
 unfolding generate_number params_number binary
 generations = (refl, refl, refl, refl, refl, refl, refl, refl)
 
--- a lookup: a row; a key with idle rows, before an index; i, j and k at their bounds, k at 0; the parameters first, and 0 beside it
+-- a lookup: a row; a key with idle rows, before an index; i, j and k at their bounds, k at 0; the parameters first, and that in place of a row
 pub lookups : (lookup_number two 4 1 0 1 ≡ 0)
     × (lookup_number two 8 1 0 1 ≡ 2)
     × (lookup_number two 8 2 1 0 ≡ 2)
@@ -86,7 +88,7 @@ pub lookups : (lookup_number two 4 1 0 1 ≡ 0)
     × (lookup_number two 4 0 0 2 ≡ 3)
     × (lookup_number two 4 0 0 0 ≡ 3)
     × (lookup_number (numbers 0 1 1 1 1 1) 8 2 1 0 ≡ 1)
-    × ((place_out (numbers 0 1 1 1 1 1) 0 0 1).value ≡ 0)
+    × (place_out (numbers 0 1 1 1 1 1) 0 0 1 ≡ Err Parameters)
 unfolding lookup_number place_out params_number
 lookups = (refl, refl, refl, refl, refl, refl, refl, refl, refl)
 

@@ -1,13 +1,13 @@
 -- The layout of the switching key, and what its rows carry (01, key, as 02, 2026-06, changes it: no row stands for k = 0; `gen_key_switching_key` of src/key.rs).
-use Rattle.std.specs.Prelude.{List, [], ◌∷◌, ℕ, ◌+◌, ◌*◌, ◌-◌, ◌%◌, ◌^◌}
+use Rattle.std.specs.Prelude.{Result, List, [], ◌∷◌, ℕ, ◌+◌, ◌*◌, ◌-◌, ◌%◌, ◌^◌}
 use Rattle.ring.specs.Word.{Q, at, neg}
 use Rattle.ring.specs.Lists.{part}
 use Rattle.ring.specs.Phase.{phase_of}
 use Rattle.params.specs.declared.Params.{Params}
-use Rattle.params.specs.Refusal.{answer, if_done}
+use Rattle.params.specs.declared.refusal.Refusal.{Refusal}
+use Rattle.params.specs.Refusal.{answer, given}
 use Rattle.params.specs.Sizes.{size, base, switching_words}
 use Rattle.refusals.specs.Table.{Check, is, below, refusal_by}
-use Rattle.key.specs.declared.RowPlace.{RowPlace}
 
 -- The place of row (i, j, k) among the rows: for i below N, j below T, k from 1 to BASE - 1.
 unfoldable pub row_index : Params → ℕ → ℕ → ℕ → ℕ
@@ -39,9 +39,6 @@ lookup_checks p len i j k =
 unfoldable pub lookup_number : Params → ℕ → ℕ → ℕ → ℕ → ℕ
 lookup_number p len i j k = refusal_by p (lookup_checks p len i j k)
 
--- What `row_index` hands back: the refusal of a lookup in a key of its stated length, and the row's place, 0 beside a refusal.
-unfoldable pub place_out : Params → ℕ → ℕ → ℕ → RowPlace
-place_out p i j k = record {
-  answer = answer (lookup_number p (switching_words p) i j k);
-  value = if_done (lookup_number p (switching_words p) i j k) (row_index p i j k) 0;
-}
+-- What `row_index` hands back: the refusal of a lookup in a key of its stated length, or the row's place.
+unfoldable pub place_out : Params → ℕ → ℕ → ℕ → Result ℕ Refusal
+place_out p i j k = given (answer (lookup_number p (switching_words p) i j k)) (row_index p i j k)

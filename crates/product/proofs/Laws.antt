@@ -1,30 +1,32 @@
 -- The refusals taken apart and put together, and the doubled row: its window from place N - i on is X^i · b, so that the rows' sum is the product.
 -- Assumes nothing.
 use mathlib.Core.Path.{◌≡◌, refl, sym, ap, ap₂, ◌∙◌}
-use mathlib.Core.Bool.{Bool, cond}
-use mathlib.Core.List.{List}
+use mathlib.Core.Bool.{Bool, true, false, cond}
+use mathlib.Core.List.{List, ◌++◌}
 use Prim.Native.Nat.{ℕ, suc, ◌+◌, ◌-◌, ◌*◌, ◌%◌, ◌≤◌, ◌<◌}
 use native.Mathlib.Nat.{mod-mod, add-mod-mod}
 use native.Mathlib.Numerals.{add-one}
 use native.Mathlib.Omega.{arith}
-use borrow.Author.Tests.{lt-ltb, le-ltb}
-use lib.Dec.{leb, leb→le, nleb→lt}
-use lib.ListN.{length, take, drop}
+use borrow.Author.Tests.{lt-ltb, le-ltb, ltb-true, ltb-false}
+use lib.Dec.{ltb, leb, leb→le, nleb→lt}
+use lib.ListN.{length, take, drop, length-append, get_or-append}
+use lib.Seq.{get_or-append-add}
 use Rattle.params.specs.declared.Params.{Params}
 use Rattle.params.specs.Ranges.{InRange}
 use Rattle.params.specs.Sizes.{size}
-use Rattle.params.proofs.Ranges.{in_range, not_refused}
+use Rattle.params.proofs.Answers.{when_done}
+use Rattle.params.proofs.Ranges.{in_range, not_refused, size_to}
 use Rattle.refusals.proofs.Table.{good, done}
 use Rattle.ring.specs.Word.{Q, at, neg}
 use Rattle.ring.specs.Sums.{sum_to, tab}
 use Rattle.ring.specs.Poly.{before, plus, times}
-use Rattle.ring.proofs.Tab.{at-tab, tab_ext}
+use Rattle.ring.proofs.Tab.{length-tab, at-tab, tab_ext, tab_of}
 use Rattle.ring.proofs.Parts.{slice_at}
 use Rattle.ring.proofs.SumLaws.{sum_back, sum_mod}
 use Rattle.ring.proofs.Words.{mul-mod_r}
 use Rattle.ring.proofs.Value.{by_test}
-use Rattle.product.specs.Product.{product_checks, product_number}
-use Rattle.product.specs.Private.{doubled_at, doubled}
+use Rattle.product.specs.Product.{product_checks, product_number, poly_mul_out}
+use Rattle.product.specs.Private.{doubled_at, doubled, Passed}
 use Rattle.ring.specs.Private.{acc_to}
 
 -- ---- the refusals
@@ -46,6 +48,10 @@ module _ (p : Params) (la lb lo : ℕ) where
   pub product_passes : InRange p → la ≡ size p → lb ≡ size p → lo ≡ size p → product_number p la lb lo ≡ 0
   unfolding product_number
   product_passes r a b o = done p (product_checks p la lb lo) (not_refused p r, (a, (b, (o, tt))))
+
+  -- and what the routines use of it
+  pub product_passed : InRange p → la ≡ size p → lb ≡ size p → lo ≡ size p → Passed p la lb lo
+  product_passed r a b o = (product_passes r a b o, o, (a ∙ sym o, b ∙ sym o, omega (arith, o, size_to p r)))
 
 -- ---- the rows
 
@@ -74,6 +80,20 @@ module _ (N : ℕ) (b : List ℕ) where
       (λ t. ap (λ (y : ℕ). y % Q) (doubled_high (N + k - i) (let u : i ≤ k = leb→le i k t in omega arith))
       ∙ ap (λ (y : ℕ). at b y % Q) (let u : i ≤ k = leb→le i k t in omega arith))
       (λ t. ap (λ (y : ℕ). y % Q) (doubled_low (N + k - i) (let u : k < i = nleb→lt i k t in omega arith)) ∙ mod-mod _ Q)
+
+-- the two halves, one after the other
+pub doubled_parts : (b front : List ℕ) → length front ≡ length b → ((k : ℕ) → k < length b → at front k ≡ neg (at b k) % Q) → front ++ b ≡ doubled (length b) b
+unfolding doubled
+doubled_parts b front e low = tab_of (front ++ b) (length b + length b) (doubled_at (length b) b) (simp length-append (omega arith)) (λ k l. go k l (ltb k (length b)) refl)
+  where
+    go : (k : ℕ) → k < length b + length b → (t : Bool) → ltb k (length b) ≡ t → at (front ++ b) k ≡ doubled_at (length b) b k
+    go k l true t =
+        let q : k < length b = ltb-true k (length b) t in
+        get_or-append front b 0 k (omega arith) ∙ low k q ∙ sym (doubled_low (length b) b k q)
+    go k l false t =
+        let q : length b ≤ k = ltb-false k (length b) t in
+        let u : k ≡ length front + (k - length b) = omega arith in
+        ap (at (front ++ b)) u ∙ get_or-append-add front b (k - length b) 0 ∙ sym (doubled_high (length b) b k q)
 
 -- the rows, last coefficient first, add up to the product
 pub rows_sum : (N : ℕ) (a b : List ℕ) (k : ℕ) → k < N
@@ -106,6 +126,9 @@ pub product_added : (N : ℕ) (a b o : List ℕ) {twice out : List ℕ} → leng
 product_added N a b o e t s =
     s ∙ ap (λ (r : List ℕ). acc_to N (at o) (λ k j. at a (N - suc j) * at r (suc j + k)) N) (t ∙ ap (λ (m : ℕ). doubled m b) e) ∙ rows_product N a b o
 
-pub product_put : (N : ℕ) (a b : List ℕ) {zeros out : List ℕ} → length zeros ≡ N → zeros ≡ tab N (λ i. 0)
-    → out ≡ plus (length zeros) zeros (times (length zeros) a b) → out ≡ times N a b
-product_put N a b e z s = s ∙ ap₂ (λ (m : ℕ) (o : List ℕ). plus m o (times m a b)) e z ∙ plus-zero N a b
+-- and what `poly_mul` leaves, which clears out first
+pub put_out : (p : Params) (a b o : List ℕ) {zeros out : List ℕ} → product_number p (length a) (length b) (length o) ≡ 0 → length o ≡ size p
+    → zeros ≡ tab (length o) (λ i. 0) → out ≡ plus (length zeros) zeros (times (length zeros) a b) → out ≡ poly_mul_out p a b o
+put_out p a b o n e z s =
+    let l = ap length z ∙ length-tab (length o) (λ i. 0) ∙ e in
+    s ∙ ap₂ (λ (m : ℕ) (c : List ℕ). plus m c (times m a b)) l (z ∙ ap (λ (m : ℕ). tab m (λ i. 0)) e) ∙ plus-zero (size p) a b ∙ sym (when_done _ _ _ n)

@@ -1,20 +1,22 @@
--- Amounts: a mask's is below 2N and b's at most 2N, since a word is less than 2N steps; a call's amount is 0 where it is refused.
+-- Amounts: a mask's is below 2N and b's at most 2N, since a word is less than 2N steps.
 -- Assumes nothing.
-use mathlib.Core.Path.{◌≡◌, refl, sym, ap, ap₂, ◌∙◌}
+use mathlib.Core.Path.{◌≡◌, refl, sym, ap, ◌∙◌}
 use Prim.Native.Nat.{ℕ, suc, ◌+◌, ◌-◌, ◌*◌, ◌/◌, ◌%◌, ◌^◌, ◌≤◌, ◌<◌}
 use native.Mathlib.Nat.{mod-lt, two-pow-succ, div-lt_iff_lt-mul}
 use native.Mathlib.Omega.{arith}
 use lib.Pow.{pow-add, pow_pos}
 use Rattle.params.specs.declared.Params.{Params}
-use Rattle.params.specs.declared.Answer.{Answer}
-use Rattle.params.specs.Refusal.{answer}
+use Rattle.params.specs.declared.refusal.Refusal.TheVariants.{Parameters}
 use Rattle.params.specs.Ranges.{params_number, InRange}
+use Rattle.params.specs.Refusal.{answer, given, unless}
+use Rattle.params.specs.Private.{fits}
+use Rattle.params.proofs.Ranges.{by_fits}
+use Rattle.std.specs.Prelude.{Bool, true, false, cond, eqb, Ok}
+use Rattle.utils.specs.declared.Amount.{Amount}
 use Rattle.params.specs.Sizes.{size}
-use Rattle.params.proofs.Answers.{kept, done, when_done}
 use Rattle.ring.specs.Word.{Q, Q_pos}
 use Rattle.ring.proofs.Words.{power_below}
 use Rattle.rotation.specs.Amount.{half, step, mask_amount, body_amount, rounded_to}
-use Rattle.rotation.specs.declared.Rounded.{Rounded}
 
 module _ (p : Params) (r : InRange p) where
   -- 2N as a power
@@ -49,6 +51,10 @@ module _ (p : Params) (r : InRange p) where
   unfolding half
   half_pos = pow_pos (30 - p.nbit)
 
+  pub step_pos : 0 < step p
+  unfolding step
+  step_pos = pow_pos (31 - p.nbit)
+
   pub mask_below : (x : ℕ) → mask_amount p x < size p + size p
   unfolding mask_amount
   mask_below x =
@@ -72,25 +78,14 @@ module _ (p : Params) (r : InRange p) where
   unfolding body_amount
   body_steps b l = omega (arith, body_steps_to b l)
 
--- ---- a call's result, made and taken apart
+-- what callers know of an amount that was asked for with parameters in range
+pub rounded_done : (p : Params) (k : ℕ) → params_number p ≡ 0 → rounded_to p k ≡ Ok (record { 0 = k })
+rounded_done p k e = rw e
 
-abbrev pub together : Answer → ℕ → Rounded
-together a k = record { answer = a; amount = record { 0 = k } }
-
-module _ (p : Params) (k : ℕ) where
-  pub rounded_refused : {a : Answer} → a ≡ answer (params_number p) → (a.number ≡ 0 → ⊥) → together a 0 ≡ rounded_to p k
-  unfolding rounded_to
-  rounded_refused e h = ap₂ together e (kept (params_number p) k 0 (λ z. h (ap (λ (a : Answer). a.number) e ∙ z)))
-
-  pub rounded_made : {a : Answer} {v : ℕ} → a ≡ answer (params_number p) → a.number ≡ 0 → v ≡ k → together a v ≡ rounded_to p k
-  unfolding rounded_to
-  rounded_made e z v = ap₂ together e (done (params_number p) k 0 (sym (ap (λ (a : Answer). a.number) e) ∙ z) v)
-
-  pub rounded_answer : (rounded_to p k).answer ≡ answer (params_number p)
-  unfolding rounded_to
-  rounded_answer = refl
-
-  -- what callers know of it
-  pub rounded_done : params_number p ≡ 0 → rounded_to p k ≡ together (answer 0) k
-  unfolding rounded_to
-  rounded_done e = ap₂ together (ap answer e) (when_done (params_number p) k 0 e)
+-- it is given by the number of the parameters' check
+pub rounded_given : (p : Params) (k : ℕ) → rounded_to p k ≡ given (answer (params_number p)) (record { 0 = k })
+rounded_given p k = rw (by_fits p) (go (fits p))
+  where
+    go : (b : Bool) → unless {A = Amount} (eqb (cond b 0 1) 0) Parameters (Ok (record { 0 = k })) ≡ given (answer (cond b 0 1)) (record { 0 = k })
+    go true = refl
+    go false = refl

@@ -1,11 +1,13 @@
 -- Rounding a word to a rotation amount, a number of steps of a 2N-th of a turn (01, trgsw, 'Rounding'; TFHE paper, Algorithm 3, line 1).
-use Rattle.std.specs.Prelude.{ℕ, ◌+◌, ◌-◌, ◌/◌, ◌%◌, ◌^◌}
+use Rattle.std.specs.Prelude.{Result, Ok, ℕ, eqb, ◌+◌, ◌-◌, ◌/◌, ◌%◌, ◌^◌}
 use Rattle.params.specs.declared.Params.{Params}
-use Rattle.params.specs.Refusal.{answer, if_done}
+use Rattle.params.specs.Refusal.{unless}
+use Rattle.params.specs.declared.refusal.Refusal.{Refusal}
+use Rattle.params.specs.declared.refusal.Refusal.TheVariants.{Parameters}
 use Rattle.params.specs.Ranges.{params_number}
 use Rattle.params.specs.Sizes.{size}
 use Rattle.ring.specs.Word.{Q}
-use Rattle.rotation.specs.declared.Rounded.{Rounded}
+use Rattle.utils.specs.declared.Amount.{Amount}
 
 -- h = 2^(30-NBIT), half a step.
 unfoldable pub half : Params → ℕ
@@ -23,6 +25,6 @@ mask_amount p x = (x + half p) % Q / step p
 unfoldable pub body_amount : Params → ℕ → ℕ
 body_amount p b = size p + size p - (b + half p) / step p
 
--- What a call of either hands back: refusal 1 with the amount 0, or the amount k.
-unfoldable pub rounded_to : Params → ℕ → Rounded
-rounded_to p k = record { answer = answer (params_number p); amount = record { 0 = if_done (params_number p) k 0 } }
+-- What a call of either hands back: refusal 1, or the amount k.
+abbrev pub rounded_to : Params → ℕ → Result Amount Refusal
+rounded_to p k = unless (eqb (params_number p) 0) Parameters (Ok (record { 0 = k }))

@@ -4,17 +4,28 @@ use mathlib.Core.Path.{◌≡◌, ap, ◌∙◌}
 use Prim.Native.Nat.{ℕ, ◌+◌, ◌-◌, ◌*◌, ◌/◌, ◌%◌, ◌^◌, ◌≤◌, ◌<◌}
 use native.Mathlib.Nat.{mod-lt, mul-le-mul_right, mul_comm}
 use native.Mathlib.Omega.{arith}
-use lib.Pow.{split}
+use lib.Pow.{split, pow_pos}
 use Rattle.params.specs.declared.Params.{Params}
 use Rattle.params.specs.Ranges.{InRange}
 use Rattle.ring.specs.Word.{Q, Q_pos, field_of}
 use Rattle.ring.specs.Sums.{sum_to}
 use Rattle.ring.proofs.Fields.{fields_sum}
+use Rattle.ring.proofs.Words.{power_below}
 use Rattle.switching.specs.Switched.{rounding, rounded}
 use Rattle.switching.specs.Drift.{dropped}
 
 pub fields_fit : (p : Params) → InRange p → (j : ℕ) → j < p.t → (j + 1) * p.basebit ≤ 30
 fields_fit p r j h = let l : j + 1 ≤ p.t = omega arith in omega (arith, r.fields_to, mul-le-mul_right p.basebit l)
+
+-- what `ring::power` gives
+pub field_power : (p : Params) → InRange p → (j : ℕ) → 2 ^ (32 - (j + 1) * p.basebit) % Q ≡ 2 ^ (32 - (j + 1) * p.basebit)
+field_power p r j = let b = r.basebit_from in power_below (32 - (j + 1) * p.basebit) (omega arith)
+
+pub base_power : (p : Params) → InRange p → 2 ^ p.basebit % Q ≡ 2 ^ p.basebit
+base_power p r = power_below p.basebit (omega (arith, r))
+
+pub power_pos : (n : ℕ) → 0 < 2 ^ n
+power_pos n = pow_pos n
 
 below : (p : Params) (a : ℕ) → rounded p a < Q
 unfolding rounded

@@ -8,37 +8,18 @@ use native.Mathlib.Numerals.{add-one}
 use native.Mathlib.Omega.{arith}
 use borrow.Author.Tests.{le-leb, lt-leb}
 use lib.Bits.{bit_or, or_lt, or_add_and, and_le_l, and_le_r}
-use lib.Dec.{leb, leb→le, nleb→lt, lit<}
+use lib.Dec.{leb, leb→le, nleb→lt}
 use lib.ListN.{length, take}
 use lib.Seq.{take-suc, take_all}
 use Rattle.ring.specs.Word.{at}
 use Rattle.ring.proofs.Value.{by_test}
 use Rattle.params.specs.declared.Params.{Params}
-use Rattle.params.specs.declared.Sizes.{Sizes}
-use Rattle.params.specs.Refusal.{check}
 use Rattle.params.specs.Ranges.{params_number}
-use Rattle.params.specs.Sizes.{sizes_of, sizes_in}
-use Rattle.params.proofs.Answers.{passed}
-use Rattle.params.proofs.Lengths.{n_most, size_most}
 use Rattle.refusals.proofs.Table.{good, done}
 use Rattle.tlwe.specs.declared.Level.{Level}
-use Rattle.tlwe.specs.declared.Level.TheVariants.{Zero, One}
-use Rattle.tlwe.specs.Level.{dimension, cipher_words}
+use Rattle.tlwe.specs.Level.{cipher_words}
 use Rattle.tlwe.specs.Linear.{linear_checks, linear_number}
-use Rattle.tlwe.specs.Private.{masks_of}
-use Rattle.tlwe.specs.Key.{binary, key_number}
-
--- ---- the masks of a ciphertext
-
--- from the record of lengths
-pub masks_in : (p : Params) (level : Level) → masks_of level (sizes_in p) ≡ dimension p level
-masks_in p Zero = refl
-masks_in p One = refl
-
--- they are few, whatever the parameters are
-pub masks_most : (p : Params) (level : Level) {s : Sizes} → s ≡ sizes_of p → masks_of level s ≤ 1100
-masks_most p Zero e = n_most p e
-masks_most p One e = let h = size_most p e in omega arith
+use Rattle.tlwe.specs.Key.{binary}
 
 -- ---- operations on ciphertexts
 
@@ -90,23 +71,12 @@ pub key_none : (key : List ℕ) → leb 0 1 ≡ binary (take 0 key)
 unfolding binary
 key_none key = refl
 
+pub key_push : (ks : List ℕ) (seen k : ℕ) → leb seen 1 ≡ binary ks → leb (bit_or seen k) 1 ≡ binary (ks ++ (k ∷ []))
+key_push ks seen k e = or_binary seen k ∙ ap (λ (c : Bool). cond (leb k 1) c false) e ∙ sym (binary_snoc ks k)
+
 pub key_more : (key : List ℕ) (i seen : ℕ) → i < length key → leb seen 1 ≡ binary (take i key) → leb (bit_or seen (at key i)) 1 ≡ binary (take (i + 1) key)
-key_more key i seen h e =
-    or_binary seen (at key i) ∙ ap (λ (c : Bool). cond (leb (at key i) 1) c false) e
-    ∙ rw (add-one, take-suc key i 0 h) (sym (binary_snoc (take i key) (at key i)))
+key_more key i seen h e = rw (add-one, take-suc key i 0 h) (key_push (take i key) seen (at key i) e)
 
 -- the loop's end: what was seen tells of the whole key
 pub key_done : (key : List ℕ) (i seen : ℕ) → length key ≤ i → leb seen 1 ≡ binary (take i key) → leb seen 1 ≡ binary key
 key_done key i seen h e = e ∙ ap binary (take_all i key h)
-
--- a key that passes the check is binary
-pub key_good : (key : List ℕ) → key_number key ≡ 0 → binary key ≡ true
-key_good key e = (passed (binary key) 4 0 (lit< tt) e).0
-
--- and one that does not is not
-pub key_bad : (key : List ℕ) → (key_number key ≡ 0 → ⊥) → binary key ≡ false
-key_bad key h = go (binary key) h
-  where
-    go : (b : Bool) → (check b 4 0 ≡ 0 → ⊥) → b ≡ false
-    go true n = absurd (n refl)
-    go false n = refl

@@ -1,7 +1,6 @@
 -- Two outcomes that a contract of this crate allows coincide: of the contract itself, as `rattle` reads it from the code, for every public routine (01, 'What the contracts owe').
 -- Assumes nothing.
-use mathlib.Core.Path.{refl}
-use Rattle.ring.proofs.Outcomes.{coincide, Determined, said, said_written}
+use Rattle.ring.proofs.Outcomes.{Determined, said, said_written}
 use Rattle.tlwe.proofs.decryption.decrypt_bit as decrypt_bit
 use Rattle.tlwe.specs.contracts.decryption.decrypt_bit as decrypt_bit_c
 use Rattle.tlwe.proofs.decryption.decrypt_message as decrypt_message
@@ -29,12 +28,11 @@ use Rattle.tlwe.specs.contracts.linear.sub_mul as sub_mul_c
 use Rattle.tlwe.proofs.plaintexts.modulus_number as modulus_number_call
 use Rattle.tlwe.specs.contracts.plaintexts.modulus_number as modulus_number_c
 
--- the contracts of the three below speak of the result field by field
 pub decrypt_bit_determined : Determined decrypt_bit_c.ended decrypt_bit.Reads.Learnt
-decrypt_bit_determined κs a x y v w p q = (λ i. record { answer = coincide p.0 q.0 i; value = coincide p.1 q.1 i }, refl)
+decrypt_bit_determined κs a x y v w = said
 
 pub decrypt_message_determined : Determined decrypt_message_c.ended decrypt_message.Reads.Learnt
-decrypt_message_determined κs a x y v w p q = (λ i. record { answer = coincide p.0 q.0 i; value = coincide p.1 q.1 i }, refl)
+decrypt_message_determined κs a x y v w = said
 
 pub encrypt_determined : Determined encrypt_c.ended encrypt.Reads.Learnt
 encrypt_determined κs a x y v w = said_written 6
@@ -46,7 +44,7 @@ pub key_number_determined : Determined key_number_c.ended key_number_call.Reads.
 key_number_determined κs a x y v w = said
 
 pub phase_of_determined : Determined phase_of_c.ended phase_of_call.Reads.Learnt
-phase_of_determined κs a x y v w p q = (λ i. record { answer = coincide p.0 q.0 i; value = record { 0 = coincide p.1 q.1 i } }, refl)
+phase_of_determined κs a x y v w = said
 
 pub combine_determined : Determined combine_c.ended combine.Reads.Learnt
 combine_determined κs a x y v w = said_written 6

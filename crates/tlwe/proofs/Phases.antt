@@ -1,13 +1,12 @@
 -- Phases: of a fresh ciphertext (the plain word plus the noise), and of sums and multiples of ciphertexts, which are those of the phases.
 -- Sums under the key are true sums; what is taken modulo Q on the way is taken out again.
 -- Assumes nothing.
-use mathlib.Core.Path.{◌≡◌, refl, sym, ap, ap₂, ◌∙◌}
-use mathlib.Core.List.{List, [], ◌∷◌, ◌++◌}
-use Prim.Native.Nat.{ℕ, suc, ◌+◌, ◌-◌, ◌*◌, ◌%◌, ◌^◌, ◌≤◌, ◌<◌}
+use mathlib.Core.Path.{◌≡◌, sym, ap, ap₂, ◌∙◌}
+use mathlib.Core.List.{List}
+use Prim.Native.Nat.{ℕ, ◌+◌, ◌-◌, ◌*◌, ◌%◌, ◌^◌, ◌<◌}
 use native.Mathlib.Nat.{add-mod, mod-add-mod, mod-lt}
 use native.Mathlib.Omega.{arith}
-use lib.ListN.{length, drop, set, drop_of_length-le}
-use lib.Seq.{drop-cons, set_at}
+use lib.ListN.{length}
 use Rattle.ring.specs.Word.{Q, Q_pos, at, neg}
 use Rattle.ring.specs.Poly.{plus, minus, scale}
 use Rattle.ring.specs.Phase.{inner, phase_of}
@@ -19,27 +18,12 @@ use Rattle.tlwe.specs.Linear.{negative}
 use Rattle.tlwe.specs.Encrypt.{encrypted}
 use Rattle.tlwe.proofs.Sums.{add_combined, sub_combined, neg_combined, add_mul_combined, sub_mul_combined, less_times}
 
+-- the phase, as the code works it out
+pub phase_is : (d : ℕ) (key c : List ℕ) {sum word : ℕ} → sum ≡ inner d key c % Q → word ≡ (at c d + neg sum) % Q → word ≡ phase_of d key c
+unfolding phase_of
+phase_is d key c s e = e ∙ ap (λ (x : ℕ). (at c d + x) % Q) (ap neg s ∙ neg-mod _)
+
 -- ---- encryption
-
--- what the code writes: b after the masks
-pub filled : (masks o : List ℕ) (sum word noise : ℕ) {out : List ℕ} {w s b : ℕ} → length o ≡ length masks + 1
-    → out ≡ masks ++ drop (length masks) o → w ≡ word → s ≡ (sum + w) % Q → b ≡ (s + noise) % Q
-    → set out (length masks) b ≡ masks ++ ((sum + word + noise) % Q ∷ [])
-unfolding Q
-filled masks o sum word noise {out} {w} {s} {b} lo e ew ea eb =
-    let h : length masks < length o = omega arith in
-    let z : length o ≤ suc (length masks) = omega arith in
-    let v : b ≡ (sum + word + noise) % 2 ^ 32 = omega arith in
-    rw (e, drop-cons o (length masks) 0 h, drop_of_length-le o z)
-    (set_at masks (at o (length masks)) [] b (length masks) refl ∙ ap (λ (x : ℕ). masks ++ (x ∷ [])) v)
-
--- which is the ciphertext, where the sum is the masks' under the key
-pub fresh_written : (masks key : List ℕ) (word noise : ℕ) {sum : ℕ} → length key ≡ length masks → sum ≡ inner (length key) key masks % Q
-    → masks ++ ((sum + word + noise) % Q ∷ []) ≡ encrypted (length masks) word masks noise key
-unfolding encrypted Q
-fresh_written masks key word noise {sum} lk es =
-    let i : sum ≡ inner (length masks) key masks % 2 ^ 32 = es ∙ ap (λ (k : ℕ). inner k key masks % 2 ^ 32) lk in
-    ap (λ (x : ℕ). masks ++ (x ∷ [])) (let v : (sum + word + noise) % 2 ^ 32 ≡ (inner (length masks) key masks + word + noise) % 2 ^ 32 = omega arith in v)
 
 -- the masks' sum goes out again
 fresh_cancel : (i w n : ℕ) → ((i + w + n) % Q + neg i) % Q ≡ (w + n) % Q

@@ -1,13 +1,12 @@
 -- Decryption (01, tlwe): what a phase stands for.
-use Rattle.std.specs.Prelude.{Bool, false, List, [], ◌∷◌, ◌++◌, ℕ, ◌+◌, ◌*◌, ◌/◌, ◌%◌, ltb, length}
+use Rattle.std.specs.Prelude.{Bool, List, [], ◌∷◌, ◌++◌, ℕ, ◌+◌, ◌*◌, ◌/◌, ◌%◌, ltb}
 use Rattle.ring.specs.Word.{Q}
 use Rattle.ring.specs.Centre.{H}
 use Rattle.params.specs.declared.Params.{Params}
-use Rattle.params.specs.Refusal.{if_done}
 use Rattle.refusals.specs.Table.{Check, holds, refusal_by}
 use Rattle.tlwe.specs.declared.Level.{Level}
 use Rattle.tlwe.specs.Level.{dimension}
-use Rattle.tlwe.specs.Key.{keyed_checks, keyed_number}
+use Rattle.tlwe.specs.Key.{keyed_checks}
 use Rattle.tlwe.specs.Plain.{is_modulus}
 use Rattle.ring.specs.Phase.{phase_of}
 
@@ -19,9 +18,9 @@ bit_of t = ltb t H
 abbrev pub message_of : ℕ → ℕ → ℕ
 message_of m t = (t * (2 * m) + H) / Q % m
 
--- The bit of a ciphertext; false where the call is refused.
+-- The bit of a ciphertext.
 abbrev pub bit_value : Params → Level → List ℕ → List ℕ → Bool
-bit_value p level c key = if_done (keyed_number p level (length c) key) (bit_of (phase_of (dimension p level) key c)) false
+bit_value p level c key = bit_of (phase_of (dimension p level) key c)
 
 -- The checks of a decryption of a message of modulus m: 2 for the lengths, 4 for the key, 5 for the modulus.
 abbrev pub message_checks : Params → Level → ℕ → ℕ → List ℕ → List Check
@@ -31,6 +30,6 @@ message_checks p level m lc key = keyed_checks p level lc key ++ (holds (is_modu
 unfoldable pub message_number : Params → Level → ℕ → ℕ → List ℕ → ℕ
 message_number p level m lc key = refusal_by p (message_checks p level m lc key)
 
--- The message of a ciphertext; 0 where the call is refused.
+-- The message of a ciphertext.
 abbrev pub message_value : Params → Level → ℕ → List ℕ → List ℕ → ℕ
-message_value p level m c key = if_done (message_number p level m (length c) key) (message_of m (phase_of (dimension p level) key c)) 0
+message_value p level m c key = message_of m (phase_of (dimension p level) key c)

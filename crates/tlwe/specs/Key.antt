@@ -2,7 +2,7 @@
 use Rattle.std.specs.Prelude.{List, [], ◌∷◌, Bool, true, false, cond, ℕ, leb, length}
 use Rattle.ring.specs.Phase.{phase_of}
 use Rattle.params.specs.declared.Params.{Params}
-use Rattle.params.specs.Refusal.{check, if_done}
+use Rattle.params.specs.Refusal.{check}
 use Rattle.refusals.specs.Table.{Check, is, holds, refusal_by}
 use Rattle.tlwe.specs.declared.Level.{Level}
 use Rattle.tlwe.specs.Level.{dimension, cipher_words}
@@ -24,6 +24,6 @@ keyed_checks p level lc key = is lc (cipher_words p level) 2 ∷ is (length key)
 unfoldable pub keyed_number : Params → Level → ℕ → List ℕ → ℕ
 keyed_number p level lc key = refusal_by p (keyed_checks p level lc key)
 
--- The phase of a ciphertext at a level; 0 where the call is refused.
+-- The phase of a ciphertext at a level.
 abbrev pub phase_value : Params → Level → List ℕ → List ℕ → ℕ
-phase_value p level c key = if_done (keyed_number p level (length c) key) (phase_of (dimension p level) key c) 0
+phase_value p level c key = phase_of (dimension p level) key c

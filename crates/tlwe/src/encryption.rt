@@ -1,63 +1,27 @@
 // Encryption at both levels with lent masks and one lent noise word: `encrypt_f64`, `encrypt_bool` and `encrypt_lwe_message` of src/tlwe.rs.
-ghost use Rattle.std.specs.Prelude.{◌≡◌, [], ◌∷◌, ◌++◌, ◌+◌, ◌%◌, length};
-ghost use Rattle.ring.specs.Word.{Q};
-ghost use Rattle.params.specs.Refusal.{answer, if_done};
-ghost use Rattle.refusals.specs.Table.{refusal_by};
-ghost use Rattle.tlwe.specs.Level.{dimension};
-ghost use Rattle.tlwe.specs.Plain.{plain_word};
-ghost use Rattle.tlwe.specs.Encrypt.{encrypt_number, encrypted, encrypt_out};
-ghost use Rattle.tlwe.specs.Private.{encrypt_lengths, plain_number, plain_key_number};
+ghost use Rattle.std.specs.Prelude.{◌≡◌, [], ◌∷◌, ◌++◌, ◌+◌, length};
+ghost use Rattle.params.specs.Refusal.{answer, outcome};
+ghost use Rattle.tlwe.specs.Encrypt.{encrypt_number, encrypt_out};
 
 use super::keys::inner;
-use super::plaintexts::{plain_number, plain_word};
+use super::plaintexts::plain_word;
 use super::{Level, Plain};
-use params::{Answer, Params};
+use params::{Params, Refusal};
 use utils::Torus;
 
-// 1, 2 or 0, for m masks, a key of k words and a result of o words.
-fn encrypt_lengths(p: Params, level: Level, m: usize, k: usize, o: usize) -> u32
-    ensures { result ≡ refusal_by p (encrypt_lengths (dimension p level) m k o) }
+// The masks and b after them.
+#[tactic(auto, using(words::proofs::Loops::copied_last))]
+fn put(masks: &[u32], b: u32, out: &mut [u32])
+    requires { length out.old ≡ length masks.now + 1 }
+    ensures { out.new ≡ masks.now ++ (b ∷ []) }
 {
-    let s = params::sizes_of(p);
-    let d = super::masks_of(s, level);
-    let words = d + 1;
-    let number = refusals::is(s.number, m, d, 2);
-    let number = refusals::is(number, k, d, 2);
-    refusals::is(number, o, words, 2)
-}
-
-// The masks and b = sum + the plain word + the noise.
-fn fill(plain: Plain, masks: &[u32], sum: u32, noise: Torus, out: &mut [u32])
-    requires { (plain_number plain ≡ 0) × (length out.old ≡ length masks.now + 1) }
-    ensures { out.new ≡ masks.now ++ ((sum + plain_word plain + noise.0) % Q ∷ []) }
-{
-    let word = plain_word(plain);
-    let b = ring::add(ring::add(sum, word.0), noise.0);
-    let last = masks.len();
     words::copy(masks, out);
-    out[last] = b;
+    out[masks.len()] = b;
 }
 
-// Encryption where the lengths fit: 4, 5, or 0 and the ciphertext. Nothing is written before the checks are done.
-fn encrypt_into(plain: Plain, masks: &[u32], noise: Torus, key: &[u32], out: &mut [u32]) -> u32
-    requires { (length key.now ≡ length masks.now) × (length out.old ≡ length masks.now + 1) }
-    ensures said { result ≡ plain_key_number plain key.now }
-    ensures written { out.new ≡ if_done (plain_key_number plain key.now) (encrypted (length masks.now) (plain_word plain) masks.now noise.0 key.now) out.old }
-{
-    let found = inner(masks, key);
-    let refused = found.number;
-    if refused != 0 {
-        return refused;
-    }
-    let number = plain_number(plain);
-    if number != 0 {
-        return number;
-    }
-    fill(plain, masks, found.word, noise, out);
-    number
-}
-
-// Encryption of a plaintext: out is a ciphertext of it.
+/// Encryption of a plaintext: out is a ciphertext of it, the masks and b = their sum under the key + the plain word + the noise. Refused with 2 for the
+/// lengths, then with 4 for the key, then with 5 for the message modulus, and then nothing is written.
+#[tactic(auto, unfolding(crate::specs::Encrypt::encrypt_number, crate::specs::Encrypt::encrypted, ring::specs::Word::Q))]
 pub fn encrypt(
     p: Params,
     level: Level,
@@ -66,17 +30,16 @@ pub fn encrypt(
     noise: Torus,
     key: &[u32],
     out: &mut [u32],
-) -> Answer
-    ensures said { result ≡ answer (encrypt_number p level plain (length masks.now) key.now (length out.old)) }
+) -> Result<(), Refusal>
+    ensures said { result ≡ outcome (answer (encrypt_number p level plain (length masks.now) key.now (length out.old))) }
     ensures written { out.new ≡ encrypt_out p level plain masks.now noise.0 key.now out.old }
 {
-    let lengths = encrypt_lengths(p, level, masks.len(), key.len(), out.len());
-    if lengths != 0 {
-        return Answer {
-            number: lengths,
-            place: 0,
-        };
-    }
-    let number = encrypt_into(plain, masks, noise, key, out);
-    Answer { number, place: 0 }
+    let p = params::check(p)?;
+    Refusal::Length.unless(masks.len() == level.masks(p))?;
+    Refusal::Length.unless(key.len() == level.masks(p))?;
+    Refusal::Length.unless(out.len() == level.words(p))?;
+    let sum = inner(masks, key)?;
+    let word = plain_word(plain)?;
+    put(masks, ring::add(ring::add(sum, word.0), noise.0), out);
+    Ok(())
 }

@@ -1,9 +1,9 @@
 #![tactic(auto)]
 // Ciphertexts of single words (src/tlwe.rs): n + 1 words at level 0, N + 1 at level 1, the last of them b. Masks and noise are lent (01, tlwe).
 ghost use Rattle.std.specs.Prelude.{◌≡◌};
-ghost use Rattle.tlwe.specs.Private.{masks_of};
+ghost use Rattle.tlwe.specs.Level.{dimension, cipher_words};
 
-use params::{Answer, Sizes};
+use params::Checked;
 
 pub mod decryption;
 pub mod encryption;
@@ -11,15 +11,15 @@ pub mod keys;
 pub mod linear;
 pub mod plaintexts;
 
-// The level of a ciphertext: `TLWELv0` or `TLWELv1` of the Rust.
+/// The level of a ciphertext: `TLWELv0` or `TLWELv1` of the Rust.
 #[derive(Clone, Copy)]
 pub enum Level {
     Zero,
     One,
 }
 
-// What is encrypted: a bit (`encrypt_bool`), a fraction of a turn as a double (`encrypt_f64`), or a message with its modulus
-// (`encrypt_lwe_message`).
+/// What is encrypted: a bit (`encrypt_bool`), a fraction of a turn as a double (`encrypt_f64`), or a message with its modulus
+/// (`encrypt_lwe_message`).
 #[derive(Clone, Copy)]
 pub enum Plain {
     Bit(bool),
@@ -27,33 +27,24 @@ pub enum Plain {
     Message { value: u64, modulus: u64 },
 }
 
-// The phase of a ciphertext, 0 beside a refusal.
-#[derive(Clone, Copy)]
-pub struct Phase {
-    pub answer: Answer,
-    pub value: utils::Torus,
-}
+impl Level {
+    // The masks of a ciphertext, also the words of its key.
+    pub(crate) fn masks(self, p: Checked) -> usize
+        ensures { result ≡ dimension p self }
+    {
+        match self {
+            Level::Zero => p.sizes.n,
+            Level::One => p.sizes.size,
+        }
+    }
 
-// A decrypted bit, false beside a refusal.
-#[derive(Clone, Copy)]
-pub struct DecryptedBit {
-    pub answer: Answer,
-    pub value: bool,
-}
-
-// A decrypted message, 0 beside a refusal.
-#[derive(Clone, Copy)]
-pub struct DecryptedMessage {
-    pub answer: Answer,
-    pub value: u64,
-}
-
-// The masks of a ciphertext, also the words of its key, out of the lengths.
-pub(crate) fn masks_of(s: Sizes, level: Level) -> usize
-    ensures { result ≡ masks_of level s }
-{
-    match level {
-        Level::Zero => s.n,
-        Level::One => s.size,
+    // The words of a ciphertext.
+    pub(crate) fn words(self, p: Checked) -> usize
+        ensures { result ≡ cipher_words p self }
+    {
+        match self {
+            Level::Zero => p.sizes.level0,
+            Level::One => p.sizes.level1,
+        }
     }
 }

@@ -4,25 +4,15 @@ ghost use Rattle.std.specs.Prelude.{◌≡◌, ◌+◌, ◌-◌, ◌*◌, ◌%�
 ghost use Rattle.ring.specs.Word.{Q, at, neg};
 ghost use Rattle.ring.specs.Sums.{tab};
 ghost use Rattle.ring.specs.Poly.{plus, minus, scale};
-ghost use Rattle.params.specs.Refusal.{answer};
+ghost use Rattle.params.specs.Refusal.{answer, outcome};
 ghost use Rattle.tlwe.specs.Level.{cipher_words};
 ghost use Rattle.tlwe.specs.Linear.{linear_number, linear_out, negative};
 
 use super::Level;
-use params::{Answer, Params};
-
-// 1, 2 or 0, for ciphertexts of la, lb and lo words.
-fn linear_number(p: Params, level: Level, la: usize, lb: usize, lo: usize) -> u32
-    ensures { result ≡ linear_number p level la lb lo }
-{
-    let s = params::sizes_of(p);
-    let words = super::masks_of(s, level) + 1;
-    let number = refusals::is(s.number, la, words, 2);
-    let number = refusals::is(number, lb, words, 2);
-    refusals::is(number, lo, words, 2)
-}
+use params::{Params, Refusal};
 
 // x · u + y · v, modulo 2^32.
+#[tactic(auto, unfolding(ring::specs::Word::Q))]
 fn weighted(u: u32, x: u32, v: u32, y: u32) -> u32
     ensures { result ≡ (x * u + y * v) % Q }
 {
@@ -32,16 +22,15 @@ fn weighted(u: u32, x: u32, v: u32, y: u32) -> u32
 // The loop of every operation here.
 fn combine_into(a: &[u32], x: u32, b: &[u32], y: u32, out: &mut [u32])
     requires { (length a.now ≡ length out.old) × (length b.now ≡ length out.old) }
-    ensures { out.new ≡ tab (length out.old) (λ i. (x * at a.now i + y * at b.now i) % Q) }
+    ensures { out.new ≡ plus (length out.old) (scale (length out.old) x a.now) (scale (length out.old) y b.now) }
 {
-    let mut i = 0;
-    while i < out.len() {
-        out[i] = weighted(a[i], x, b[i], y);
-        i += 1;
+    for (i, o) in out.iter_mut().enumerate() {
+        *o = weighted(a[i], x, b[i], y);
     }
 }
 
-// x · a + y · b.
+/// x · a + y · b, word by word. Refused with 2 unless each slice has the words of a ciphertext, and then out stays as it was.
+#[tactic(auto, unfolding(crate::specs::Linear::linear_number))]
 pub fn combine(
     p: Params,
     level: Level,
@@ -50,42 +39,47 @@ pub fn combine(
     b: &[u32],
     y: u32,
     out: &mut [u32],
-) -> Answer
-    ensures said { result ≡ answer (linear_number p level (length a.now) (length b.now) (length out.old)) }
+) -> Result<(), Refusal>
+    ensures said { result ≡ outcome (answer (linear_number p level (length a.now) (length b.now) (length out.old))) }
     ensures written { out.new ≡ linear_out p level a.now b.now out.old (plus (cipher_words p level) (scale (cipher_words p level) x a.now) (scale (cipher_words p level) y b.now)) }
 {
-    let number = linear_number(p, level, a.len(), b.len(), out.len());
-    if number == 0 {
-        combine_into(a, x, b, y, out);
-    }
-    Answer { number, place: 0 }
+    let words = level.words(params::check(p)?);
+    Refusal::Length.unless(a.len() == words)?;
+    Refusal::Length.unless(b.len() == words)?;
+    Refusal::Length.unless(out.len() == words)?;
+    combine_into(a, x, b, y, out);
+    Ok(())
 }
 
-// a + b.
-pub fn add(p: Params, level: Level, a: &[u32], b: &[u32], out: &mut [u32]) -> Answer
-    ensures said { result ≡ answer (linear_number p level (length a.now) (length b.now) (length out.old)) }
+/// a + b.
+#[tactic(auto, using(crate::proofs::Sums::add_combined))]
+pub fn add(p: Params, level: Level, a: &[u32], b: &[u32], out: &mut [u32]) -> Result<(), Refusal>
+    ensures said { result ≡ outcome (answer (linear_number p level (length a.now) (length b.now) (length out.old))) }
     ensures written { out.new ≡ linear_out p level a.now b.now out.old (plus (cipher_words p level) a.now b.now) }
 {
     combine(p, level, a, 1, b, 1, out)
 }
 
-// a - b.
-pub fn sub(p: Params, level: Level, a: &[u32], b: &[u32], out: &mut [u32]) -> Answer
-    ensures said { result ≡ answer (linear_number p level (length a.now) (length b.now) (length out.old)) }
+/// a - b.
+#[tactic(auto, using(crate::proofs::Sums::sub_combined))]
+pub fn sub(p: Params, level: Level, a: &[u32], b: &[u32], out: &mut [u32]) -> Result<(), Refusal>
+    ensures said { result ≡ outcome (answer (linear_number p level (length a.now) (length b.now) (length out.old))) }
     ensures written { out.new ≡ linear_out p level a.now b.now out.old (minus (cipher_words p level) a.now b.now) }
 {
     combine(p, level, a, 1, b, u32::MAX, out)
 }
 
-// -a: each word negated, not complemented.
-pub fn neg(p: Params, level: Level, a: &[u32], out: &mut [u32]) -> Answer
-    ensures said { result ≡ answer (linear_number p level (length a.now) (length a.now) (length out.old)) }
+/// -a: each word negated, not complemented.
+#[tactic(auto, using(crate::proofs::Sums::neg_combined))]
+pub fn neg(p: Params, level: Level, a: &[u32], out: &mut [u32]) -> Result<(), Refusal>
+    ensures said { result ≡ outcome (answer (linear_number p level (length a.now) (length a.now) (length out.old))) }
     ensures written { out.new ≡ linear_out p level a.now a.now out.old (negative (cipher_words p level) a.now) }
 {
     combine(p, level, a, u32::MAX, a, 0, out)
 }
 
-// a + multiplier · b.
+/// a + multiplier · b.
+#[tactic(auto, using(crate::proofs::Sums::add_mul_combined))]
 pub fn add_mul(
     p: Params,
     level: Level,
@@ -93,14 +87,15 @@ pub fn add_mul(
     b: &[u32],
     multiplier: u32,
     out: &mut [u32],
-) -> Answer
-    ensures said { result ≡ answer (linear_number p level (length a.now) (length b.now) (length out.old)) }
+) -> Result<(), Refusal>
+    ensures said { result ≡ outcome (answer (linear_number p level (length a.now) (length b.now) (length out.old))) }
     ensures written { out.new ≡ linear_out p level a.now b.now out.old (plus (cipher_words p level) a.now (scale (cipher_words p level) multiplier b.now)) }
 {
     combine(p, level, a, 1, b, multiplier, out)
 }
 
-// a - multiplier · b.
+/// a - multiplier · b.
+#[tactic(auto, using(crate::proofs::Sums::sub_mul_combined))]
 pub fn sub_mul(
     p: Params,
     level: Level,
@@ -108,8 +103,8 @@ pub fn sub_mul(
     b: &[u32],
     multiplier: u32,
     out: &mut [u32],
-) -> Answer
-    ensures said { result ≡ answer (linear_number p level (length a.now) (length b.now) (length out.old)) }
+) -> Result<(), Refusal>
+    ensures said { result ≡ outcome (answer (linear_number p level (length a.now) (length b.now) (length out.old))) }
     ensures written { out.new ≡ linear_out p level a.now b.now out.old (minus (cipher_words p level) a.now (scale (cipher_words p level) multiplier b.now)) }
 {
     combine(p, level, a, 1, b, ring::negated(multiplier), out)

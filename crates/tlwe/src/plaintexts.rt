@@ -1,33 +1,23 @@
 // The word that each plaintext stands for, and which plaintexts are refused.
 ghost use Rattle.std.specs.Prelude.{◌≡◌};
+ghost use Rattle.params.specs.Refusal.{answer, outcome, given};
 ghost use Rattle.tlwe.specs.Plain.{modulus_number, bit_word, message_word, plain_word};
 ghost use Rattle.tlwe.specs.Private.{plain_number};
 
 use super::Plain;
+use params::Refusal;
 use utils::Torus;
 
-// 5 where the message modulus is not 2, 4, 8, 16, 32 or 64, else 0.
-pub fn modulus_number(modulus: u64) -> u32
-    ensures { result ≡ modulus_number modulus }
+/// Refused with 5 where the message modulus is not 2, 4, 8, 16, 32 or 64.
+#[tactic(auto, unfolding(crate::specs::Plain::is_modulus))]
+pub fn modulus_number(modulus: u64) -> Result<(), Refusal>
+    ensures { result ≡ outcome (answer (modulus_number modulus)) }
 {
-    match modulus {
-        2 | 4 | 8 | 16 | 32 | 64 => 0,
-        _ => 5,
-    }
-}
-
-// The same of a plaintext: only a message can be refused.
-pub(crate) fn plain_number(plain: Plain) -> u32
-    ensures { result ≡ plain_number plain }
-{
-    match plain {
-        Plain::Bit(_) => 0,
-        Plain::Turn(_) => 0,
-        Plain::Message { value: _, modulus } => modulus_number(modulus),
-    }
+    Refusal::Modulus.unless(matches!(modulus, 2 | 4 | 8 | 16 | 32 | 64))
 }
 
 // ±0.125 of a turn.
+#[tactic(auto, unfolding(ring::specs::Word::Q))]
 fn bit_word(bit: bool) -> u32
     ensures { result ≡ bit_word bit }
 {
@@ -35,6 +25,7 @@ fn bit_word(bit: bool) -> u32
 }
 
 // (value mod modulus) · 2^31 / modulus.
+#[tactic(auto, using(crate::proofs::Messages::modulus_bounds), unfolding(ring::specs::Centre::H))]
 fn message_word(value: u64, modulus: u64) -> u32
     requires { modulus_number modulus ≡ 0 }
     ensures { result ≡ message_word value modulus }
@@ -44,14 +35,16 @@ fn message_word(value: u64, modulus: u64) -> u32
     word as u32
 }
 
-// The word of a plaintext.
-pub(crate) fn plain_word(plain: Plain) -> Torus
-    requires { plain_number plain ≡ 0 }
-    ensures { result.0 ≡ plain_word plain }
+// The word of a plaintext: only a message can be refused, for its modulus.
+pub(crate) fn plain_word(plain: Plain) -> Result<Torus, Refusal>
+    ensures { result ≡ given (answer (plain_number plain)) (record { 0 = plain_word plain }) }
 {
-    match plain {
+    Ok(match plain {
         Plain::Bit(bit) => Torus(bit_word(bit)),
         Plain::Turn(turn) => utils::f64_to_torus(turn),
-        Plain::Message { value, modulus } => Torus(message_word(value, modulus)),
-    }
+        Plain::Message { value, modulus } => {
+            modulus_number(modulus)?;
+            Torus(message_word(value, modulus))
+        }
+    })
 }

@@ -1,4 +1,4 @@
--- Which names a token can have by its length, and which bytes of the text it is. Lists of unequal lengths are never alike.
+-- That no bytes of another length than 2, 3 or 4 spell a name, and which bytes of the text a token is. Lists of unequal lengths are never alike.
 -- Assumes nothing.
 use mathlib.Core.Path.{◌≡◌, refl, sym, ap, ◌∙◌}
 use mathlib.Core.Bool.{Bool, true, false, cond, ◌&&◌, and-false}
@@ -6,14 +6,20 @@ use mathlib.Core.List.{List, [], ◌∷◌}
 use Prim.Native.Nat.{ℕ, suc, ◌+◌, ◌-◌, ◌≤◌, ◌<◌}
 use native.Mathlib.Omega.{arith}
 use lib.Dec.{eqb}
-use lib.ListN.{length, get_or, take, drop, length-drop}
-use Rattle.ring.specs.Word.{at}
-use Rattle.ring.specs.Sums.{tab}
-use Rattle.ring.proofs.Tab.{tab_of}
+use Rattle.std.specs.Cmp.Lexicographic.{pointwise}
+use lib.ListN.{length, take, drop, length-drop}
 use Rattle.tokens.specs.declared.Token.{Token}
 use Rattle.tokens.specs.Tokens.{blank, front, start_of, word_of, end_of, alike, name_of, token_at, name_token_at}
 
 -- ---- names by length
+
+-- two lists are alike where `==` on slices says so
+pub alike_is : (xs ys : List ℕ) → alike xs ys ≡ pointwise eqb xs ys
+unfolding alike
+alike_is [] [] = refl
+alike_is [] (y ∷ ys) = refl
+alike_is (x ∷ xs) [] = refl
+alike_is (x ∷ xs) (y ∷ ys) = ap (λ (t : Bool). eqb x y && t) (alike_is xs ys)
 
 unlike : (xs ys : List ℕ) → (length xs ≡ length ys → ⊥) → alike xs ys ≡ false
 unfolding alike
@@ -21,25 +27,6 @@ unlike [] [] h = absurd (h refl)
 unlike [] (y ∷ ys) h = refl
 unlike (x ∷ xs) [] h = refl
 unlike (x ∷ xs) (y ∷ ys) h = rw (unlike xs ys (λ e. h (ap suc e))) (and-false (eqb x y))
-
-pub of_two : (w : List ℕ) → length w ≡ 2 → name_of w ≡ cond (alike w (69 ∷ 81 ∷ [])) 4 0
-unfolding name_of
-of_two w h =
-    rw (
-      unlike w (88 ∷ 79 ∷ 82 ∷ []) (λ e. omega (arith, e)),
-      unlike w (65 ∷ 78 ∷ 68 ∷ []) (λ e. omega (arith, e)),
-      unlike w (73 ∷ 78 ∷ 86 ∷ []) (λ e. omega (arith, e)),
-      unlike w (69 ∷ 81 ∷ 87 ∷ []) (λ e. omega (arith, e)),
-      unlike w (77 ∷ 65 ∷ 78 ∷ 68 ∷ []) (λ e. omega (arith, e)),
-    )
-
-pub of_three : (w : List ℕ) → length w ≡ 3 → name_of w ≡ cond (alike w (88 ∷ 79 ∷ 82 ∷ [])) 1 (cond (alike w (65 ∷ 78 ∷ 68 ∷ [])) 2 (cond (alike w (73 ∷ 78 ∷ 86 ∷ [])) 3 (cond (alike w (69 ∷ 81 ∷ 87 ∷ [])) 5 0)))
-unfolding name_of
-of_three w h = rw (unlike w (69 ∷ 81 ∷ []) (λ e. omega (arith, e)), unlike w (77 ∷ 65 ∷ 78 ∷ 68 ∷ []) (λ e. omega (arith, e)))
-
-pub of_four : (a b c d : ℕ) → name_of (a ∷ b ∷ c ∷ d ∷ []) ≡ cond (eqb a 77 && alike (b ∷ c ∷ d ∷ []) (65 ∷ 78 ∷ 68 ∷ [])) 6 0
-unfolding name_of alike
-of_four a b c d = simp and-false
 
 pub of_others : (w : List ℕ) → (length w ≡ 2 → ⊥) → (length w ≡ 3 → ⊥) → (length w ≡ 4 → ⊥) → name_of w ≡ 0
 unfolding name_of
@@ -79,20 +66,6 @@ word_within text s h = let f = front_length (drop s text) in let d = length-drop
 
 pub word_part : (text : List ℕ) (s e : ℕ) → e ≡ s + length (front (drop s text)) → front (drop s text) ≡ take (e - s) (drop s text)
 word_part text s e h = front-take (drop s text) ∙ ap (λ (n : ℕ). take n (drop s text)) (let z : length (front (drop s text)) ≡ e - s = omega arith in z)
-
--- ---- a list of known length by its bytes
-
-pub word_two : (w : List ℕ) → length w ≡ 2 → w ≡ get_or w 0 0 ∷ get_or w 1 0 ∷ []
-unfolding tab
-word_two w h = tab_of w 2 (at w) h (λ i k. refl)
-
-pub word_three : (w : List ℕ) → length w ≡ 3 → w ≡ get_or w 0 0 ∷ get_or w 1 0 ∷ get_or w 2 0 ∷ []
-unfolding tab
-word_three w h = tab_of w 3 (at w) h (λ i k. refl)
-
-pub word_four : (w : List ℕ) → length w ≡ 4 → w ≡ get_or w 0 0 ∷ get_or w 1 0 ∷ get_or w 2 0 ∷ get_or w 3 0 ∷ []
-unfolding tab
-word_four w h = tab_of w 4 (at w) h (λ i k. refl)
 
 -- ---- the name of a token that is found
 

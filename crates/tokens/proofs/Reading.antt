@@ -30,3 +30,7 @@ past_as text a b e = cc
 pub start_as : (text : List ℕ) {p q : ℕ} {t : Token} → t ≡ token_at text p → p ≡ q → t.start ≡ start_of text q
 unfolding token_at
 start_as text e d = ap (λ (u : Token). u.start) e ∙ ap (start_of text) d
+
+-- the place after one token more
+pub read_on : (text : List ℕ) (at i p : ℕ) (t : Token) → p ≡ past text at i → t ≡ token_at text p → t.end ≡ past text at (i + 1)
+read_on text at i p t here e = (reading text at i here e).end_is

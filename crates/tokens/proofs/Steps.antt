@@ -6,7 +6,7 @@ use mathlib.Core.List.{List, [], ◌∷◌}
 use Prim.Native.Nat.{ℕ, suc, ◌+◌, ◌*◌, ◌-◌, ◌≤◌, ◌<◌}
 use native.Mathlib.Numerals.{add-one}
 use native.Mathlib.Omega.{arith}
-use borrow.Author.Tests.{lt-ltb, le-ltb, le-leb, lt-leb, eq-eqb, ne_eqb}
+use borrow.Author.Tests.{lt-ltb, le-leb, eq-eqb, ne_eqb}
 use lib.ListN.{length, get_or, drop, drop_of_length-le}
 use lib.Seq.{drop-cons}
 use Rattle.tokens.specs.declared.Token.{Token}
@@ -64,21 +64,9 @@ start_over text p h = let z = ap blanks (drop_of_length-le text h) in omega arit
 
 -- ---- a digit more
 
-pub digit_low : (v b : ℕ) → b < 48 → with_digit v b ≡ no_number
-unfolding with_digit
-digit_low v b h = rw (lt-leb 48 b h)
-
-pub digit_high : (v b : ℕ) → 57 < b → with_digit v b ≡ no_number
-unfolding with_digit
-digit_high v b h = rw (le-leb 48 b (omega arith), lt-leb b 57 h)
-
 pub digit_in : (v b : ℕ) → 48 ≤ b → b ≤ 57 → 10 * v + (b - 48) < no_number → with_digit v b ≡ 10 * v + (b - 48)
 unfolding with_digit
 digit_in v b l m h = rw (le-leb 48 b l, le-leb b 57 m, lt-ltb (10 * v + (b - 48)) no_number h)
-
-pub digit_past : (v b : ℕ) → 48 ≤ b → b ≤ 57 → no_number ≤ 10 * v + (b - 48) → with_digit v b ≡ no_number
-unfolding with_digit
-digit_past v b l m h = rw (le-leb 48 b l, le-leb b 57 m, le-ltb (10 * v + (b - 48)) no_number h)
 
 -- ---- the token that begins at s, read from p on
 

@@ -1,6 +1,6 @@
 -- The refusals taken apart and put together, and the rows: each lies in its bit's part of the key.
 -- Assumes nothing.
-use mathlib.Core.Path.{◌≡◌, refl, sym, ap, ap₂, ◌∙◌}
+use mathlib.Core.Path.{◌≡◌, refl, ap, ap₂, ◌∙◌}
 use mathlib.Core.List.{List}
 use Prim.Native.Nat.{ℕ, ◌+◌, ◌-◌, ◌*◌, ◌≤◌, ◌<◌}
 use native.Mathlib.Nat.{add-sub_cancel_left, mul-le-mul_right}
@@ -9,8 +9,7 @@ use lib.ListN.{length, take, drop}
 use Rattle.params.specs.declared.Params.{Params}
 use Rattle.params.specs.Ranges.{params_number}
 use Rattle.params.specs.Sizes.{size, bit_words}
-use Rattle.params.specs.Refusal.{if_done}
-use Rattle.params.proofs.Answers.{kept, when_done}
+use Rattle.params.proofs.Answers.{when_done}
 use Rattle.params.proofs.Ranges.{in_range}
 use Rattle.ring.specs.Poly.{plus, times}
 use Rattle.product.specs.Product.{poly_mul_add_out}
@@ -20,6 +19,7 @@ use Rattle.decomposition.proofs.Checks.{polynomial_done}
 use Rattle.trgsw.specs.External.{row_a, row_b}
 use Rattle.refusals.proofs.Table.{good, done}
 use Rattle.trgsw.specs.Refusals.{external_checks, external_number, cmux_checks, cmux_number}
+use Rattle.trgsw.specs.Private.{ExternalGood}
 use Rattle.ring.specs.Pair.{Pair}
 use Rattle.ring.specs.Lists.{part}
 
@@ -59,23 +59,7 @@ module _ (p : Params) (z : params_number p ≡ 0) where
   product_added o lo {d} {dd} {q} {row} ed ld eq lq e =
       e ∙ poly_mul_add_done p (in_range p z) d q o (ap length ed ∙ ld) lq lo ∙ ap₂ (λ (u v : List ℕ). plus (size p) o (times (size p) u v)) ed eq
 
--- a pair by the refusal's number
-module _ (n : ℕ) (new old : Pair) where
-  pub pair_done : n ≡ 0 → {u v : List ℕ} → u ≡ new.a → v ≡ new.b → (u ≡ (if_done n new old).a) × (v ≡ (if_done n new old).b)
-  pair_done z eu ev = (eu ∙ ap (λ (w : Pair). w.a) (sym (when_done n new old z)), ev ∙ ap (λ (w : Pair). w.b) (sym (when_done n new old z)))
-
-  pub pair_kept : (n ≡ 0 → ⊥) → (old.a ≡ (if_done n new old).a) × (old.b ≡ (if_done n new old).b)
-  pair_kept h = (ap (λ (w : Pair). w.a) (kept n new old h), ap (λ (w : Pair). w.b) (kept n new old h))
-
 -- ---- what holds of a call that is not refused
-
-pub record ExternalGood (p : Params) (lr la lb lx ly : ℕ) : Type 0 where
-  pub range : params_number p ≡ 0
-  pub rows : lr ≡ bit_words p
-  pub first : la ≡ size p
-  pub second : lb ≡ size p
-  pub into_a : lx ≡ size p
-  pub into_b : ly ≡ size p
 
 module _ (p : Params) (lr la lb lx ly : ℕ) where
   pub external_good : external_number p lr la lb lx ly ≡ 0 → ExternalGood p lr la lb lx ly

@@ -10,6 +10,10 @@ use lib.ListN.{length}
 use Rattle.ring.specs.Word.{Q, Q_pos, at}
 use Rattle.ring.specs.Sums.{tab}
 use Rattle.ring.specs.Poly.{plus, total}
+use Rattle.ring.specs.Pair.{Pair}
+use Rattle.params.specs.declared.Params.{Params}
+use Rattle.params.specs.Sizes.{size}
+use Rattle.trgsw.specs.External.{external}
 use Rattle.ring.proofs.Tab.{at-tab, length-tab, tab_ext, tab_of, tab_below}
 
 -- the later of two additions first
@@ -41,10 +45,15 @@ unfolding total plus
 total_below N zero f i = tab_below N (λ i. 0) (λ i. Q_pos) i
 total_below N (suc n) f i = tab_below N _ (λ i. mod-lt _ Q_pos) i
 
--- a total added to what was cleared
-pub cleared_first : (N n : ℕ) (f : ℕ → List ℕ) {m : ℕ} {z new : List ℕ} → z ≡ tab m (λ i. 0) → m ≡ N → new ≡ plus N (total N n f) z → new ≡ total N n f
-cleared_first N n f ez em en =
-    en ∙ ap (plus N (total N n f)) (ez ∙ ap (λ (k : ℕ). tab k (λ i. 0)) em) ∙ plus_nothing N (total N n f) (length-total N n f) (total_below N n f)
+-- an external product added to a pair that was cleared
+module _ (p : Params) (rows : List ℕ) (x : Pair) (m : ℕ) (e : m ≡ size p) where
+  pub alone_a : plus (size p) (external p rows x).a (tab m (λ i. 0)) ≡ (external p rows x).a
+  unfolding external
+  alone_a = ap (λ (k : ℕ). plus (size p) (external p rows x).a (tab k (λ i. 0))) e ∙ plus_nothing (size p) _ (length-total (size p) _ _) (total_below (size p) _ _)
+
+  pub alone_b : plus (size p) (external p rows x).b (tab m (λ i. 0)) ≡ (external p rows x).b
+  unfolding external
+  alone_b = ap (λ (k : ℕ). plus (size p) (external p rows x).b (tab k (λ i. 0))) e ∙ plus_nothing (size p) _ (length-total (size p) _ _) (total_below (size p) _ _)
 
 -- ---- a loop that adds f 0, f 1, .. to a polynomial o
 

@@ -1,3 +1,4 @@
 pub mod External
 pub mod Errors
 pub mod Refusals
+pub mod Private

@@ -14,6 +14,7 @@ use Rattle.tlwe.specs.Key.{binary}
 use Rattle.trlwe.specs.Extract.{extract_checks, extract_number}
 use Rattle.trlwe.specs.Encrypt.{encrypt_pair_checks, encrypt_pair_number}
 use Rattle.trlwe.specs.Decrypt.{decrypt_pair_checks, decrypt_pair_number}
+use Rattle.trlwe.specs.Private.{EncryptGood}
 
 -- ---- extraction
 
@@ -37,17 +38,6 @@ module _ (p : Params) (la lb k lo : ℕ) where
   extract_passes r a b o l = done p (extract_checks p la lb k lo) (not_refused p r, (a, (b, (o, (l, tt)))))
 
 -- ---- encryption
-
--- what holds of an encryption that is not refused
-pub record EncryptGood (p : Params) (lp lm ln : ℕ) (key : List ℕ) (la lb : ℕ) : Type 0 where
-  pub range : InRange p
-  pub plain : lp ≡ size p
-  pub masks : lm ≡ size p
-  pub noise : ln ≡ size p
-  pub keys : length key ≡ size p
-  pub mask : la ≡ size p
-  pub body : lb ≡ size p
-  pub bits : binary key ≡ true
 
 module _ (p : Params) (lp lm ln : ℕ) (key : List ℕ) (la lb : ℕ) where
   pub encrypt_good : encrypt_pair_number p lp lm ln key la lb ≡ 0 → EncryptGood p lp lm ln key la lb

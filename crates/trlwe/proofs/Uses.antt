@@ -20,7 +20,8 @@ use Rattle.ring.proofs.Places.{length-plus}
 use Rattle.trlwe.specs.Extract.{extract_number, extracted, extract_out}
 use Rattle.trlwe.specs.Encrypt.{fresh_body, words_of_bits, mask_out, body_out}
 use Rattle.trlwe.specs.Decrypt.{decrypted, decrypt_out}
-use Rattle.trlwe.proofs.Checks.{extract_passes, EncryptGood, encrypt_passes, DecryptGood, decrypt_passes}
+use Rattle.trlwe.specs.Private.{EncryptGood}
+use Rattle.trlwe.proofs.Checks.{extract_passes, encrypt_passes, DecryptGood, decrypt_passes}
 use Rattle.trlwe.proofs.Pairs.{phase_fresh, bits_back, phase-extracted}
 use Rattle.ring.specs.Bit.{truth, bit_number}
 

@@ -1,3 +1,4 @@
 pub mod Extract
 pub mod Encrypt
 pub mod Decrypt
+pub mod Private

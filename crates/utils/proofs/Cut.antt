@@ -2,11 +2,10 @@
 -- Assumes nothing.
 use Rattle.std.proofs.Common.{◌≡◌, ℕ, ◌+◌, ◌-◌, ◌*◌, ◌/◌, ◌%◌, ◌^◌, ◌<◌, ◌≤◌, min, Bool, true, false, not, T, ℤ, pos, sym, refl, ap, ◌∙◌, subst, inl, inr, true≢false, le_of_eq, lt_of_lt_of_le, lt_irrefl, mod-lt, div-lt_iff_lt-mul, eq-zero-or-pos, lt_of_mul-lt-mul_right, mul-lt-mul_of_pos_right, mul-pos, zero-mul, mul_right_comm, arith, lit≤, ltb→lt, lt→ltb, nltb→le}
 use native.Mathlib.Nat.{div-eq_of_lt}
-use lib.Ieee.{Float, nan, inf, fin, binary64, up, down, rem, add, sub, mul, neg, lt, ne, fits, is_nan, to_unsigned}
+use lib.Ieee.{Float, nan, inf, fin, binary64, up, down, rem, add, sub, mul, neg, lt, fits, is_nan, to_unsigned}
 use lib.Ieee.Fits.{down_pos}
 use lib.Ieee.Exact.{HasValue}
 use lib.Ieee.Nearest.{div_same}
-use lib.Ieee.Compare.{differs_from_itself}
 use Rattle.std.specs.Float.{fract, round_with, float_with_sign, is_sign_negative}
 use Rattle.ring.specs.Word.{Q, Q_pos}
 use Rattle.utils.specs.Torus.{word}
@@ -121,12 +120,12 @@ sign_of (fin false m e) s a c v t = absurd (none (m * up e) (down e) (ltb→lt (
     none : (n d : ℕ) → n * 1 < 0 * d → ⊥
     none n d h = omega arith
 
-pub negative : (d p : Float) → IsScaledFraction d p → T (lt p zero_f) → Cuts true d (neg p)
+pub negative : (d p : Float) → IsScaledFraction d p → lt p zero_f ≡ true → Cuts true d (neg p)
 unfolding lt
-negative nan p v t = absurd (subst (λ (x : Float). T (lt x zero_f)) v t)
-negative (inf s) p v t = absurd (subst (λ (x : Float). T (lt x zero_f)) v t)
+negative nan p v t = absurd (true≢false (sym (subst (λ (x : Float). lt x zero_f ≡ true) v t)))
+negative (inf s) p v t = absurd (true≢false (sym (subst (λ (x : Float). lt x zero_f ≡ true) v t)))
 negative (fin true m e) p v t = cuts true m e (neg p) (neg_val p (m * up e % down e * Q) (down e) v)
-negative (fin false m e) p v t = absurd (true≢false (sym (sign_of p false (m * up e % down e * Q) (down e) v t)))
+negative (fin false m e) p v t = absurd (true≢false (sym (sign_of p false (m * up e % down e * Q) (down e) v (subst T (sym t) tt))))
 
 -- a negative value that is not below 0 is -0
 is_zero : (a d : ℕ) → 0 < d → a * d ≡ 0 → a ≡ 0
@@ -156,15 +155,25 @@ minus_zero m e (fin true k g) v t =
     big : (n d : ℕ) → 0 < d → 0 < n * 1 + 2 ^ 64 * d
     big n d h = omega arith
 
-pub nonnegative : (d p : Float) → IsScaledFraction d p → T (not (ne p p)) → T (not (lt p zero_f)) → Cuts false d p
-unfolding ne
-nonnegative nan p v n t = absurd (subst (λ (x : Float). T (not (ne x x))) v n)
-nonnegative (inf s) p v n t = absurd (subst (λ (x : Float). T (not (ne x x))) v n)
-nonnegative (fin true m e) p v n t = minus_zero m e p v t
+pub nonnegative : (d p : Float) → IsScaledFraction d p → is_nan p ≡ false → lt p zero_f ≡ false → Cuts false d p
+unfolding is_nan
+nonnegative nan p v n t = absurd (true≢false (subst (λ (x : Float). is_nan x ≡ false) v n))
+nonnegative (inf s) p v n t = absurd (true≢false (subst (λ (x : Float). is_nan x ≡ false) v n))
+nonnegative (fin true m e) p v n t = minus_zero m e p v (subst (λ (b : Bool). T (not b)) (sym t) tt)
 nonnegative (fin false m e) p v n t = cuts false m e p v
 
-pub undefined : (d p : Float) → IsScaledFraction d p → T (ne p p) → 0 ≡ word d
-unfolding word
+pub undefined : (d p : Float) → IsScaledFraction d p → is_nan p ≡ true → 0 ≡ word d
+unfolding word is_nan
 undefined nan p v n = refl
 undefined (inf s) p v n = refl
-undefined (fin s m e) p v n = absurd (subst (λ (y : Float). HasValue y s (m * up e % down e * Q) (down e)) (differs_from_itself p n) v)
+undefined (fin s m e) nan v n = absurd v
+undefined (fin s m e) (inf t) v n = absurd v
+undefined (fin s m e) (fin t k g) v n = absurd (true≢false (sym n))
+
+-- what the cut then gives
+module _ (s : Bool) (d y : Float) (w : Cuts s d y) {n : ℕ} (e : n ≡ to_unsigned 64 y) where
+  pub below_q : n < Q
+  below_q = subst (λ (x : ℕ). x < Q) (sym e) w.2
+
+  pub is_word : word d ≡ signed s n
+  is_word = w.3 ∙ ap (signed s) (sym e)

@@ -3,18 +3,19 @@
 ghost use Rattle.std.specs.Prelude.{◌≡◌, false, length};
 ghost use Rattle.std.specs.Float.Ieee.Exact.{HasValue};
 ghost use Rattle.ring.specs.Word.{Q};
-ghost use Rattle.params.specs.Refusal.{answer, if_done};
+ghost use Rattle.params.specs.Refusal.{answer, outcome, if_done};
 ghost use Rattle.utils.specs.Torus.{word, words_of_doubles, vec_number};
 ghost use Rattle.utils.specs.Private.{IsFraction, IsScaledFraction};
 
-use params::Answer;
+use params::Refusal;
+use std::num::truncating_f64_to_u64;
 
-// A word: it counts 2^-32 of a turn (`Torus` of src/params.rs).
+/// A word: it counts 2^-32 of a turn (`Torus` of src/params.rs).
 #[derive(Clone, Copy)]
 pub struct Torus(pub u32);
 
-// A rotation amount: it counts steps of a 2N-th of a turn (`a_tilda` of src/trgsw.rs). Both are numbers of 32 bits, and one turn is 2^32 of the
-// first and 2N of the second, so they are two types: neither may stand where the other is wanted (01, params and utils).
+/// A rotation amount: it counts steps of a 2N-th of a turn (`a_tilda` of src/trgsw.rs). Both are numbers of 32 bits, and one turn is 2^32 of the
+/// first and 2N of the second, so they are two types: neither may stand where the other is wanted (01, params and utils).
 #[derive(Clone, Copy)]
 pub struct Amount(pub u32);
 
@@ -36,65 +37,37 @@ fn scaled_fraction(d: f64) -> f64
     fraction(d) * 4294967296.0
 }
 
-// The word of a double: the fraction of d, times 2^32, cut toward zero, modulo 2^32. A NaN and the infinities give 0.
-// The Rust cuts to a signed number. Here the size is cut and the word negated where d is negative, which is the same cut.
+/// The word of a double: the fraction of d, times 2^32, cut toward zero, modulo 2^32. A NaN and the infinities give 0.
+/// The Rust cuts to a signed number. Here the size is cut and the word negated where d is negative, which is the same cut.
 pub fn f64_to_torus(d: f64) -> Torus
     ensures { result.0 ≡ word d }
 {
     let p = scaled_fraction(d);
-    if p != p {
-        return Torus(0);
-    }
-    if p < 0.0 {
-        let n = std::num::truncating_f64_to_u64(-p);
-        let w = n as u32;
-        Torus(ring::sub(0, w))
+    if p.is_nan() {
+        Torus(0)
+    } else if p < 0.0 {
+        Torus(ring::negated(truncating_f64_to_u64(-p) as u32))
     } else {
-        let n = std::num::truncating_f64_to_u64(p);
-        let v = n as u32;
-        Torus(v)
+        Torus(truncating_f64_to_u64(p) as u32)
     }
 }
 
-// t / 2^32, exactly: the fraction of a turn that the word stands for.
+/// t / 2^32, exactly: the fraction of a turn that the word stands for.
 pub fn torus_to_f64(t: Torus) -> f64
     ensures { HasValue result false t.0 Q }
 {
-    let n = t.0;
-    (n as f64) / 4294967296.0
+    f64::from(t.0) / 4294967296.0
 }
 
-// Refusal 2 where the two slices differ in length, else 0.
-fn vec_number(doubles: usize, places: usize) -> u32
-    ensures { result ≡ vec_number doubles places }
-{
-    if doubles != places {
-        return 2;
-    }
-    0
-}
-
-// The words of d into out, which is as long.
-fn words_into(d: &[f64], out: &mut [u32])
-    requires { length d.now ≡ length out.old }
-    ensures { out.new ≡ words_of_doubles d.now }
-{
-    let mut i = 0;
-    while i < d.len() {
-        let t = f64_to_torus(d[i]);
-        out[i] = t.0;
-        i += 1;
-    }
-}
-
-// The word of each double of d into the same place of out. Refused with 2, and nothing is written, where their lengths differ.
-pub fn f64_to_torus_vec(d: &[f64], out: &mut [u32]) -> Answer
-    ensures said { result ≡ answer (vec_number (length d.now) (length out.old)) }
+/// The word of each double of d into the same place of out. Refused with 2, and nothing is written, where their lengths differ.
+#[tactic(auto, using(ring::proofs::Tab::tab_none, ring::proofs::Tab::tab_more))]
+pub fn f64_to_torus_vec(d: &[f64], out: &mut [u32]) -> Result<(), Refusal>
+    ensures said { result ≡ outcome (answer (vec_number (length d.now) (length out.old))) }
     ensures written { out.new ≡ if_done (vec_number (length d.now) (length out.old)) (words_of_doubles d.now) out.old }
 {
-    let number = vec_number(d.len(), out.len());
-    if number == 0 {
-        words_into(d, out);
+    Refusal::Length.unless(d.len() == out.len())?;
+    for (i, x) in d.iter().enumerate() {
+        out[i] = f64_to_torus(*x).0;
     }
-    Answer { number, place: 0 }
+    Ok(())
 }

@@ -98,78 +98,57 @@ fn slices(rt: &impl Print) -> io::Result<()> {
     slice(rt, refused, &short)
 }
 
-// Document 01's two, and other eighths of a turn.
-fn eighths(rt: &impl Print) -> io::Result<()> {
-    example(rt, "-0.125", -0.125)?;
-    example(rt, "1.75", 1.75)?;
-    example(rt, "0.125", 0.125)?;
-    example(rt, "0.25", 0.25)?;
-    example(rt, "-0.25", -0.25)?;
-    example(rt, "0.5", 0.5)?;
-    example(rt, "-0.5", -0.5)
-}
-
-// Whole turns and the zeros.
-fn wholes(rt: &impl Print) -> io::Result<()> {
-    example(rt, "1.0", 1.0)?;
-    example(rt, "-1.0", -1.0)?;
-    example(rt, "0.0", 0.0)?;
-    example(rt, "-0.0", -0.0)
-}
-
-// Decimal fractions, which no double has exactly.
-fn decimals(rt: &impl Print) -> io::Result<()> {
-    example(rt, "0.1", 0.1)?;
-    example(rt, "-0.1", -0.1)?;
-    example(rt, "3.3", 3.3)?;
-    example(rt, "-1234.5678", -1234.5678)
-}
-
-// One step below a turn.
-fn near_a_turn(rt: &impl Print) -> io::Result<()> {
-    example(rt, "0.9999999999999999", 0.9999999999999999)?;
-    example(rt, "-0.9999999999999999", -0.9999999999999999)
-}
-
-// A word's step, and just less.
-fn near_a_word(rt: &impl Print) -> io::Result<()> {
-    example(rt, "2.3283064365386963e-10", 2.3283064365386963e-10)?;
-    example(rt, "-2.3283064365386963e-10", -2.3283064365386963e-10)?;
-    example(rt, "2.328306436538696e-10", 2.328306436538696e-10)?;
-    example(rt, "-2.328306436538696e-10", -2.328306436538696e-10)
-}
-
-// Numbers with few or no bits after the point.
-fn large(rt: &impl Print) -> io::Result<()> {
-    example(rt, "4503599627370495.5", 4503599627370495.5)?;
-    example(rt, "9007199254740993.0", 9007199254740993.0)?;
-    example(rt, "1e300", 1e300)?;
-    example(rt, "-1e300", -1e300)
-}
-
-// Numbers below the normal ones.
-fn small(rt: &impl Print) -> io::Result<()> {
-    example(rt, "5e-324", 5e-324)?;
-    example(rt, "-5e-324", -5e-324)?;
-    example(rt, "1e-310", 1e-310)
-}
-
-// What is no number.
-fn no_numbers(rt: &impl Print) -> io::Result<()> {
-    example(rt, "0.0 / 0.0", 0.0 / 0.0)?;
-    example(rt, "1.0 / 0.0", 1.0 / 0.0)?;
-    example(rt, "-1.0 / 0.0", -1.0 / 0.0)
+// Document 01's two, and the doubles at which the conversion may go wrong, each as it is written and by its value.
+fn examples(rt: &impl Print) -> io::Result<()> {
+    let list = [
+        // those two, and other eighths of a turn
+        ("-0.125", -0.125),
+        ("1.75", 1.75),
+        ("0.125", 0.125),
+        ("0.25", 0.25),
+        ("-0.25", -0.25),
+        ("0.5", 0.5),
+        ("-0.5", -0.5),
+        // Whole turns and the zeros
+        ("1.0", 1.0),
+        ("-1.0", -1.0),
+        ("0.0", 0.0),
+        ("-0.0", -0.0),
+        // Decimal fractions, which no double has exactly
+        ("0.1", 0.1),
+        ("-0.1", -0.1),
+        ("3.3", 3.3),
+        ("-1234.5678", -1234.5678),
+        // One step below a turn
+        ("0.9999999999999999", 0.9999999999999999),
+        ("-0.9999999999999999", -0.9999999999999999),
+        // A word's step, and just less
+        ("2.3283064365386963e-10", 2.3283064365386963e-10),
+        ("-2.3283064365386963e-10", -2.3283064365386963e-10),
+        ("2.328306436538696e-10", 2.328306436538696e-10),
+        ("-2.328306436538696e-10", -2.328306436538696e-10),
+        // Numbers with few or no bits after the point
+        ("4503599627370495.5", 4503599627370495.5),
+        ("9007199254740993.0", 9007199254740993.0),
+        ("1e300", 1e300),
+        ("-1e300", -1e300),
+        // Numbers below the normal ones
+        ("5e-324", 5e-324),
+        ("-5e-324", -5e-324),
+        ("1e-310", 1e-310),
+        // What is no number
+        ("0.0 / 0.0", 0.0 / 0.0),
+        ("1.0 / 0.0", 1.0 / 0.0),
+        ("-1.0 / 0.0", -1.0 / 0.0),
+    ];
+    for (name, d) in list {
+        example(rt, name, d)?;
+    }
+    Ok(())
 }
 
 fn main(rt: HostRuntime) -> io::Result<()> {
-    eighths(&rt)?;
-    wholes(&rt)?;
-    decimals(&rt)?;
-    near_a_turn(&rt)?;
-    near_a_word(&rt)?;
-    large(&rt)?;
-    small(&rt)?;
-    no_numbers(&rt)?;
+    examples(&rt)?;
     doubles(&rt)?;
     words(&rt)?;
     slices(&rt)

@@ -1,6 +1,6 @@
 use mathlib.Core.Path.{◌≡◌}
 use mathlib.Core.List.{◌++◌}
-use Prim.Native.Nat.{◌+◌, ◌*◌, ◌-◌, ◌≤◌}
+use Prim.Native.Nat.{◌*◌}
 use lib.ListN.{length, drop}
 use Rattle.ring.specs.Lists.{joined}
 use Rattle.columns.specs.Column.{pair_result}
@@ -8,8 +8,5 @@ use Rattle.columns.proofs.column_into.Given as goal
 
 abbrev pub invariant-loop-i : goal.invariant-loop-i
 invariant-loop-i l =
-    (l.i ≤ l.count) × (length l.out ≡ length l.initial.out) × (length (joined l.i (λ r. pair_result l.p l.ksk l.bsk l.kind l.pairs r)) ≡ l.i * (l.p.n + 1))
-    × (l.out ≡ joined l.i (λ r. pair_result l.p l.ksk l.bsk l.kind l.pairs r) ++ drop (l.i * (l.p.n + 1)) l.initial.out)
-
-abbrev pub decreases-loop-i : goal.decreases-loop-i
-decreases-loop-i l = l.count - l.i
+    (length (joined l.i (λ r. pair_result l.p l.ksk l.bsk l.kind l.pairs r)) ≡ l.i * l.words)
+    × (l.out ≡ joined l.i (λ r. pair_result l.p l.ksk l.bsk l.kind l.pairs r) ++ drop (l.i * l.words) l.initial.out)

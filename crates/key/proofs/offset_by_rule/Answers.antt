@@ -40,11 +40,11 @@ module _ (p : Params) (r : InRange p) where
   quotient = ap₂ (λ (d c : ℕ). d / (c - 1)) (ap₂ (λ (x y : ℕ). x * (y - 1)) power fields) field
 
 pub overflow_mul-result : goal.overflow_mul-result
-overflow_mul-result c = omega (arith, product_fits c.args.p c.requires)
+overflow_mul-result c = omega (arith, product_fits c.p.inside.params c.p.invariant.0)
 
 pub overflow_cast-result : goal.overflow_cast-result
 unfolding Q
-overflow_cast-result c = omega (arith, quotient c.args.p c.requires, rule_below c.args.p c.requires)
+overflow_cast-result c = omega (arith, quotient c.p.inside.params c.p.invariant.0, rule_below c.p.inside.params c.p.invariant.0)
 
 pub returns : goal.returns
-returns c = quotient c.args.p c.requires ∙ sym (offset_is_rule c.args.p c.requires)
+returns c = let p = c.p.inside.params in let r = c.p.invariant.0 in rw (sym c.p.view_is) (quotient p r ∙ sym (offset_is_rule p r))

@@ -1,6 +1,4 @@
-use mathlib.Core.Path.{◌≡◌}
-use Prim.Native.Nat.{◌+◌, ◌-◌, ◌≤◌}
-use lib.ListN.{length}
+use Rattle.std.proofs.Common.{◌≡◌, ◌+◌, length}
 use Rattle.params.specs.Sizes.{size}
 use Rattle.ring.specs.Word.{at}
 use Rattle.ring.specs.Poly.{minus, total}
@@ -9,7 +7,4 @@ use Rattle.switching.specs.Switched.{mask_rows}
 use Rattle.switching.proofs.switch_into.Given as goal
 
 abbrev pub invariant-loop-i : goal.invariant-loop-i
-invariant-loop-i l = (l.i ≤ length l.src - 1) × (length l.out ≡ l.p.n + 1) × (l.out ≡ minus (l.p.n + 1) (trivial l.p.n (at l.src (size l.p))) (total (l.p.n + 1) l.i (mask_rows l.p l.ksk l.src)))
-
-abbrev pub decreases-loop-i : goal.decreases-loop-i
-decreases-loop-i l = length l.src - 1 - l.i
+invariant-loop-i l = (length l.out ≡ l.p.n + 1) × (l.out ≡ minus (l.p.n + 1) (trivial l.p.n (at l.src (size l.p))) (total (l.p.n + 1) l.i (mask_rows l.p l.ksk l.src)))

@@ -1,18 +1,11 @@
--- `trgsw::external_product` meets its contract: it goes by the refusal.
+-- `trgsw::external_product` meets its contract: what is added to nothing is the sum itself.
 -- Assumes nothing.
-use mathlib.Core.Path.{sym, ◌∙◌}
-use lib.ListN.{length}
-use Rattle.trgsw.proofs.Checks.{external_good}
+use Rattle.std.proofs.Common.{rules, ◌∙◌}
+use Rattle.trgsw.proofs.Sums.{alone_a, alone_b}
 use Rattle.trgsw.proofs.external_product.Goals as goal
 
-pub put_external-requires-clause-p_value : goal.put_external-requires-clause-p_value
-put_external-requires-clause-p_value c =
-    let a = c.args in
-    let g = external_good a.p (length a.rows.now) (length a.a.now) (length a.b.now) (length a.outa.now) (length a.outb.now) (sym c.external_number-number.ensures ∙ c.if-number-eq0.true) in
-    g.range
+pub returns-clause-first : goal.returns-clause-first
+returns-clause-first c = let e = (rw c.fill.ensures at c.add_external.ensures.outa_after) ∙ alone_a _ _ _ _ c.in_ok-p.ensures.good.into_a in search rules
 
-pub put_external-requires-clause-rows_len : goal.put_external-requires-clause-rows_len
-put_external-requires-clause-rows_len c =
-    let a = c.args in
-    let g = external_good a.p (length a.rows.now) (length a.a.now) (length a.b.now) (length a.outa.now) (length a.outb.now) (sym c.external_number-number.ensures ∙ c.if-number-eq0.true) in
-    (g.rows, g.first, g.second, g.into_a, g.into_b)
+pub returns-clause-second : goal.returns-clause-second
+returns-clause-second c = let e = (rw c.fill-2.ensures at c.add_external.ensures.outb_after) ∙ alone_b _ _ _ _ c.in_ok-p.ensures.good.into_b in search rules

@@ -1,7 +1,4 @@
-use mathlib.Core.Path.{◌≡◌}
-use mathlib.Core.List.{List}
-use Prim.Native.Nat.{ℕ, ◌+◌, ◌-◌, ◌≤◌}
-use lib.ListN.{length}
+use Rattle.std.proofs.Common.{ℕ, List, ◌≡◌}
 use Rattle.ring.specs.Poly.{plus, times, total}
 use Rattle.params.specs.declared.Params.{Params}
 use Rattle.params.specs.Sizes.{size}
@@ -15,8 +12,5 @@ term half p rows a b r = times (size p) (pair_digit p (record { a = a; b = b }) 
 
 abbrev pub invariant-loop-r : goal.invariant-loop-r
 invariant-loop-r l =
-    (l.r ≤ l.p.l + l.p.l) × (length l.d ≡ size l.p) × (length l.outa ≡ size l.p) × (length l.outb ≡ size l.p)
-    × (l.outa ≡ plus (size l.p) (total (size l.p) l.r (term row_a l.p l.rows l.a l.b)) l.initial.outa) × (l.outb ≡ plus (size l.p) (total (size l.p) l.r (term row_b l.p l.rows l.a l.b)) l.initial.outb)
-
-abbrev pub decreases-loop-r : goal.decreases-loop-r
-decreases-loop-r l = l.p.l + l.p.l - l.r
+    (l.outa ≡ plus (size l.p) (total (size l.p) l.r (term row_a l.p l.rows l.a l.b)) l.initial.outa)
+    × (l.outb ≡ plus (size l.p) (total (size l.p) l.r (term row_b l.p l.rows l.a l.b)) l.initial.outb)

@@ -7,4 +7,5 @@ pub returns : goal.returns
 returns c =
     let g = c.args in
     let w = c.requires in
-    opened g.p w.0 g.a.now g.b.now g.key.now g.out.now g.az.now w.1 w.3 w.5 w.4 c.poly_mul.ensures.written c.bits_of.ensures
+    opened g.p (rw c.p.view_is at c.p.invariant.0) g.a.now g.b.now g.key.now g.out.now g.az.now w.mask w.keys w.into w.scratch
+    (rw c.p.view_is at c.poly_mul.ensures.written) c.bits_of.ensures

@@ -1,6 +1,6 @@
 -- `utils::torus_to_f64` meets its contract: both the cast and the quotient are exact.
 -- Assumes nothing.
-use Rattle.std.proofs.Common.{ℕ, ◌^◌, ◌<◌, ◌≤◌, false, pos, arith, lit≤}
+use Rattle.std.proofs.Common.{ℕ, ◌^◌, ◌<◌, ◌≤◌, false, pos, arith, rules, lit≤}
 use lib.Ieee.{binary64, fin, of_int, of_bits, div}
 use lib.Ieee.Exact.{HasValue}
 use lib.Ieee.Back.{round_whole}
@@ -20,4 +20,6 @@ quotient t h = div-pow binary64 (of_int binary64 (pos t)) false t 32 (lit≤ tt)
 
 pub returns : goal.returns
 unfolding of_bits Q
-returns c = quotient c.args.t.0 c.row_known-1.given.fits
+returns c =
+    let h : c.args.t.0 < 2 ^ 32 = search rules in
+    rw c.from.ensures (quotient c.args.t.0 h)

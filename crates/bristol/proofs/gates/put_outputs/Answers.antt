@@ -7,7 +7,7 @@ use Rattle.bristol.proofs.PutGates.{outputs_none, output_wire, output_to, output
 use Rattle.bristol.proofs.gates.put_outputs.Goals as goal
 
 pub loop-o-init : goal.loop-o-init
-loop-o-init c = let a = c.args in (omega arith, outputs_none a.text.now a.out.now a.at)
+loop-o-init c = let a = c.args in outputs_none a.text.now a.out.now a.at
 
 pub put_field-requires : goal.put_field-requires
 put_field-requires c =
@@ -19,7 +19,7 @@ put_field-requires c =
     let a = c.args in
     let h = c.requires in
     let l = c.loop-o in
-    let k = l.invariant.1.long in
+    let k = l.invariant.long in
     (omega arith, output_to a.text.now a.out.now h.ins_value.3 a.at l.o (omega arith) c.ours-w.result wire)
 
 pub loop-o-preserved : goal.loop-o-preserved
@@ -32,7 +32,6 @@ loop-o-preserved c =
     let a = c.args in
     let h = c.requires in
     let l = c.loop-o in (
-      omega arith,
-      outputs_more a.text.now a.out.now h.ins_value.3 a.at l.o (omega arith) l.out c.put_field.new.out c.ours-w.result (omega arith) l.invariant.1 wire c.put_field.ensures
-          c.put_field.auto.out,
+    outputs_more a.text.now a.out.now h.ins_value.3 a.at l.o (omega arith) l.out c.put_field.new.out c.ours-w.result (omega arith) l.invariant wire c.put_field.ensures
+    c.put_field.auto.out
     )

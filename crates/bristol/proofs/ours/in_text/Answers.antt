@@ -9,27 +9,27 @@ use Rattle.bristol.proofs.ours.in_text.Goals as goal
 pub overflow_add-result : goal.overflow_add-result
 overflow_add-result c =
     let a = c.args in
-    let v = c.loop-i in
+    let v = c.loop in
     let e = c.requires.0 in
-    let s = left_small a.text.now a.j a.w v.wire v.count v.at v.i c.requires.1 v.invariant (omega arith) c.line_back-g.ensures c.made_before-count.ensures c.own.ensures in
+    let s = left_small a.text.now a.j a.w v.wire v.count v.at v.counter c.requires.1 v.invariant (omega arith) c.line_back-g.ensures c.made_before-count.ensures c.own.ensures in
     omega arith
 
 pub returns-then-own : goal.returns-then-own
 returns-then-own c =
     let a = c.args in
-    let v = c.loop-i in
+    let v = c.loop in
     ap (λ (n : ℕ). n + c.made_before-count.result) c.requires.0
-    ∙ left_own a.text.now a.j a.w v.wire v.count v.at v.i c.requires.1 v.invariant (omega arith) c.line_back-g.ensures c.made_before-count.ensures c.own.ensures c.if-own.true
+    ∙ left_own a.text.now a.j a.w v.wire v.count v.at v.counter c.requires.1 v.invariant (omega arith) c.line_back-g.ensures c.made_before-count.ensures c.own.ensures c.if-own.true
 
-pub loop-i-preserved : goal.loop-i-preserved
-loop-i-preserved c =
+pub loop-preserved : goal.loop-preserved
+loop-preserved c =
     let a = c.args in
-    let v = c.loop-i in
-    left_step a.text.now a.j a.w v.wire v.count v.at v.i c.requires.1 v.invariant (omega arith) c.line_back-g.ensures c.made_before-count.ensures c.own.ensures c.if-own.false
+    let v = c.loop in
+    left_step a.text.now a.j a.w v.wire v.count v.at v.counter c.requires.1 v.invariant (omega arith) c.line_back-g.ensures c.made_before-count.ensures c.own.ensures c.if-own.false
     c.wire_before-wire.ensures
 
 pub returns : goal.returns
 returns c =
-    let v = c.loop-i in
+    let v = c.loop in
     let a = c.args in
-    left_none a.text.now a.j a.w v.wire v.count v.at v.i v.invariant (omega arith)
+    left_none a.text.now a.j a.w v.wire v.count v.at v.counter v.invariant (omega arith)

@@ -1,13 +1,9 @@
--- `bristol::ours::start_table` meets its contract: each turn writes one more wire.
+-- `bristol::ours::start_table` meets its contract: a loop that writes the wires from the front.
 -- Assumes nothing.
-use mathlib.Core.Path.{refl}
 use native.Mathlib.Omega.{arith}
-use lib.ListN.{length-set}
-use Rattle.ring.proofs.Tab.{tab_none, tab_more}
+use mathlib.Core.Path.{◌∙◌}
+use Rattle.ring.proofs.Tab.{tab_of}
 use Rattle.bristol.proofs.ours.start_table.Goals as goal
 
-pub loop-w-init : goal.loop-w-init
-loop-w-init c = (omega arith, refl, tab_none _ _)
-
-pub loop-w-preserved : goal.loop-w-preserved
-loop-w-preserved c = let l = c.loop-w in (omega arith, simp length-set l.invariant.1, tab_more _ _ l.w (omega arith) l.invariant.2 refl)
+pub returns : goal.returns
+returns c = tab_of _ _ (λ w. w) (c.loop-w.auto.table ∙ c.requires) (λ k h. c.loop-w.invariant k (omega arith))

@@ -1,103 +1,27 @@
--- `bristol_form::gate::gate` meets its contract: the first part that is refused refuses the gate; where none is, the gate is what its parts say.
+-- `bristol_form::gate::gate` meets its contract: the first part that is refused refuses the gate.
 -- Assumes nothing.
-use mathlib.Core.Path.{sym, ap, ◌∙◌}
-use Prim.Native.Nat.{ℕ}
-use Rattle.tokens.specs.Tokens.{past, number_at, name_at, place_at}
-use Rattle.tokens.proofs.Laws.{past_none}
-use Rattle.bristol_form.specs.Says.{gate_at}
-use Rattle.tokens.proofs.Reading.{reading}
-use Rattle.bristol_form.proofs.Lookup.{past_operands, past_results, gate_after}
-use Rattle.bristol_form.proofs.Tells.{told_same}
-use Rattle.bristol_form.proofs.GateParts.{gate_counts, gate_operands, gate_results, gate_named}
-use Rattle.bristol_form.proofs.Holding.{holds_next}
+use mathlib.Core.Path.{◌≡◌, sym, ◌∙◌}
+use Rattle.std.specs.Prelude.{Err}
+use Rattle.std.proofs.Common.{rules}
+use Rattle.bristol_form.proofs.GateParts.{refused_counts, refused_operands, refused_results, holds_after, on_ok}
 use Rattle.bristol_form.proofs.gate.gate.Goals as goal
 
-pub returns-then-c-ne0-clause-told : goal.returns-then-c-ne0-clause-told
-returns-then-c-ne0-clause-told c =
-    let a = c.args in
-    let text = a.text.now in
-    let g = gate_at text a.j in
-    let n = c.read_counts-c in
-    let d = c.if-c-ne0.true in told_same (gate_counts text a.j n.result.number n.result.place n.ensures.told d) c.refused.ensures.0 c.refused.ensures.1
+pub returns-in_err-c-clause-said : goal.returns-in_err-c-clause-said
+returns-in_err-c-clause-said c =
+    let f : c.from_residual.result ≡ Err c.in_err-c.field-0.0 = search rules in
+    f ∙ refused_counts c.args.text.now c.args.j (sym c.read_counts.ensures ∙ c.in_err-c.was)
 
-pub returns-then-o-ne0-clause-told : goal.returns-then-o-ne0-clause-told
-returns-then-o-ne0-clause-told c =
-    let a = c.args in
-    let text = a.text.now in
-    let g = gate_at text a.j in
-    let n = c.read_counts-c in
-    let n0 = c.if-c-ne0.false in
-    let k = n.ensures.after n0 in
-    let o = c.operands-o in
-    let d = c.if-o-ne0.true in told_same (gate_operands text a.j n.result.number n.result.place n.ensures.told n0 n.result.operands o.result.number o.result.place k.operands_are o.ensures.told d) c.refused-then-o-ne0.ensures.0 c.refused-then-o-ne0.ensures.1
+pub returns-in_err-r-clause-said : goal.returns-in_err-r-clause-said
+returns-in_err-r-clause-said c =
+    let f : c.from_residual-in_err-r.result ≡ Err c.in_err-r.field-0.0 = search rules in
+    f ∙ refused_operands c.args.text.now c.args.j c.in_ok-c.c (sym c.read_counts.ensures ∙ c.in_ok-c.was) (sym c.operands.ensures ∙ c.in_err-r.was)
 
-pub results-r-requires-clause-at_value : goal.results-r-requires-clause-at_value
-results-r-requires-clause-at_value c =
-    let a = c.args in
-    let text = a.text.now in
-    let g = gate_at text a.j in
-    let n = c.read_counts-c in
-    let n0 = c.if-c-ne0.false in
-    let k = n.ensures.after n0 in
-    let o = c.operands-o in
-    let o0 = c.if-o-ne0.false in
-    let p = past_operands text g n.result.at n.result.operands o.result.at k.at_is k.operands_are (o.ensures.after o0) in
-    (p, k.results_are)
+pub returns-in_err-n-clause-said : goal.returns-in_err-n-clause-said
+returns-in_err-n-clause-said c =
+    let f : c.from_residual-in_err-n.result ≡ Err c.in_err-n.field-0.0 = search rules in
+    f ∙ refused_results c.args.text.now c.args.j c.in_ok-c.c (sym c.read_counts.ensures ∙ c.in_ok-c.was) c.in_ok-r.r (sym c.operands.ensures ∙ c.in_ok-r.was) (sym c.results.ensures.said ∙ c.in_err-n.was)
 
-pub returns-then-r-ne0-clause-told : goal.returns-then-r-ne0-clause-told
-returns-then-r-ne0-clause-told c =
-    let a = c.args in
-    let text = a.text.now in
-    let g = gate_at text a.j in
-    let n = c.read_counts-c in
-    let n0 = c.if-c-ne0.false in
-    let k = n.ensures.after n0 in
-    let o = c.operands-o in
-    let o0 = c.if-o-ne0.false in
-    let p = past_operands text g n.result.at n.result.operands o.result.at k.at_is k.operands_are (o.ensures.after o0) in
-    let r = c.results-r in
-    let d = c.if-r-ne0.true in told_same (gate_results text a.j n.result.number n.result.place n.ensures.told n0 n.result.operands o.result.number o.result.place k.operands_are o.ensures.told o0 n.result.results r.result.number r.result.place k.results_are r.ensures.told d) c.refused-then-r-ne0.ensures.0 c.refused-then-r-ne0.ensures.1
-
-pub returns-clause-told : goal.returns-clause-told
-returns-clause-told c =
-    let a = c.args in
-    let text = a.text.now in
-    let g = gate_at text a.j in
-    let n = c.read_counts-c in
-    let n0 = c.if-c-ne0.false in
-    let k = n.ensures.after n0 in
-    let o = c.operands-o in
-    let o0 = c.if-o-ne0.false in
-    let p = past_operands text g n.result.at n.result.operands o.result.at k.at_is k.operands_are (o.ensures.after o0) in
-    let r = c.results-r in
-    let r0 = c.if-r-ne0.false in
-    let t = c.next-constant in
-    let q = past_results text g o.result.at n.result.results r.result.at p k.results_are (r.ensures.after r0).0 in
-    let w = (reading text n.result.at 0 (sym (past_none text n.result.at)) t.ensures).number_is ∙ ap (λ (x : ℕ). number_at text x 0) k.at_is in gate_named text a.j n.result.number n.result.place n.ensures.told n0 n.result.operands o.result.number o.result.place k.operands_are o.ensures.told o0 n.result.results r.result.number r.result.place k.results_are r.ensures.told r0 t.result.number c.given-set_wire.result r.result.at c.named.result.number c.named.result.place w c.given-set_wire.ensures q
-    c.named.ensures.told
-
-pub returns-clause-after : goal.returns-clause-after
-returns-clause-after c =
-    let a = c.args in
-    let text = a.text.now in
-    let g = gate_at text a.j in
-    let n = c.read_counts-c in
-    let n0 = c.if-c-ne0.false in
-    let k = n.ensures.after n0 in
-    let o = c.operands-o in
-    let o0 = c.if-o-ne0.false in
-    let p = past_operands text g n.result.at n.result.operands o.result.at k.at_is k.operands_are (o.ensures.after o0) in
-    let r = c.results-r in
-    let r0 = c.if-r-ne0.false in
-    let t = c.next-constant in
-    let q = past_results text g o.result.at n.result.results r.result.at p k.results_are (r.ensures.after r0).0 in
-    let w = (reading text n.result.at 0 (sym (past_none text n.result.at)) t.ensures).number_is ∙ ap (λ (x : ℕ). number_at text x 0) k.at_is in λ z. (
-      let m = c.named.ensures.after z in
-          record {
-            results_are = m.results_are ∙ k.results_are;
-            name_is = m.name_is ∙ ap (λ (x : ℕ). name_at text x 0) q;
-            name_place_is = m.name_place_is ∙ ap (λ (x : ℕ). place_at text x 0) q;
-            at_is = m.at_is ∙ ap (λ (x : ℕ). past text x 1) q ∙ sym (gate_after text a.j);
-          },
-      holds_next text r.new.bits a.j n.result.results k.results_are (r.ensures.after r0).1,
-    )
+pub returns-clause-holds : goal.returns-clause-holds
+returns-clause-holds c =
+    on_ok c.named.result
+    (holds_after c.args.text.now c.args.j c.in_ok-c.c (sym c.read_counts.ensures ∙ c.in_ok-c.was) c.in_ok-r.r (sym c.operands.ensures ∙ c.in_ok-r.was) c.in_ok-n.n (sym c.results.ensures.said ∙ c.in_ok-n.was) c.results.new.bits c.in_ok-n.ensures.holds)

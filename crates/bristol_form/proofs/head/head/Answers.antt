@@ -1,423 +1,152 @@
 -- `bristol_form::head::head` meets its contract: each token is what the text says there, and each test refuses as the head's answer does.
 -- Assumes nothing.
 use mathlib.Core.Path.{◌≡◌, refl, sym, ap, ◌∙◌}
-use mathlib.Core.Bool.{◌||◌}
-use Prim.Native.Nat.{◌+◌, ◌-◌}
+use Prim.Native.Nat.{◌+◌}
 use native.Mathlib.Omega.{arith}
-use lib.Dec.{ltb, eqb}
+use borrow.Author.Tests.{leb-true, leb-false}
+use lib.Dec.{leb}
+use Rattle.std.specs.Prelude.{Err}
+use Rattle.std.proofs.Common.{rules}
 use Rattle.params.specs.declared.Answer.{Answer}
-use Rattle.tokens.specs.Tokens.{past}
+use Rattle.params.specs.declared.refusal.Refusal.TheVariants.{Text}
+use Rattle.tokens.specs.Tokens.{past, place_at}
 use Rattle.tokens.proofs.Laws.{past_none, past_more}
-use Rattle.bristol_form.specs.Says.{gates, wires, input_values, input_sizes, inputs, output_values, output_sizes, outputs}
+use Rattle.tokens.proofs.Reading.{reading}
+use Rattle.bristol_form.specs.Says.{sizes_to, input_values, input_sizes}
 use Rattle.bristol_form.specs.Form.{head_answer}
-use Rattle.bristol_form.specs.Private.{Told}
-use Rattle.tokens.proofs.Reading.{Reading, reading, past_as}
-use Rattle.bristol_form.proofs.Tells.{telling, told_same}
-use Rattle.bristol_form.proofs.AcceptHead.{head_good, head_done}
-use Rattle.bristol_form.proofs.Summed.{sizes_as, sum_as}
-use Rattle.bristol_form.proofs.Heading.{input_sizes_lem, inputs_summed, output_values_lem, output_sizes_lem, outputs_summed, body_place, set_as, not_gates, not_wires, few_wires, not_values, Counts, inputs_answer, outputs_answer, inputs_refused, wires_left, not_outputs, outputs_told}
+use Rattle.bristol_form.specs.Private.{sizes_answer, head_of}
+use Rattle.bristol_form.proofs.Tells.{given_text, given_value, unless_text, unless_held, mapped_err, mapped_ok, if_ok}
+use Rattle.bristol_form.proofs.Heading.{not_gates, not_wires, few_wires, not_values, input_sizes_lem, output_values_lem, output_sizes_lem, is_number, not_number, begun, inputs_told, values_next, set_read, inputs_are, outputs_told, outputs_are, body_is, inputs_refused, wires_left, not_outputs, outputs_decide}
 use Rattle.bristol_form.proofs.head.head.Goals as goal
 
-pub head_limit-limit-requires : goal.head_limit-limit-requires
-head_limit-limit-requires c =
-    let gates-read : Reading c.args.text.now 0 0 c.next-g.result =
-    let b = c.args.text.now in reading b 0 0 (sym (past_none b 0)) c.next-g.ensures
-    in
-    let wires_read : Reading c.args.text.now 0 1 c.next-w.result =
-    reading c.args.text.now 0 1 gates-read.end_is c.next-w.ensures
-    in
-    let values-read : Reading c.args.text.now 0 2 c.next-n.result =
-    reading c.args.text.now 0 2 wires_read.end_is c.next-n.ensures
-    in
-    let inputs_read : let b = c.args.text.now in let r = c.sizes-ins.result in (r.sum ≡ inputs b) × (r.at ≡ past b (input_sizes b) (input_values b)) =
+pub returns-in_err-g : goal.returns-in_err-g
+returns-in_err-g c =
     let b = c.args.text.now in
-    let n = values-read in
-    let s = c.sizes-ins.ensures.summed c.if-ins-ne0.false in
-    let at = n.end_is ∙ input_sizes_lem b in
-    let count = n.number_is in
-    (sum_as b at count s.0 ∙ inputs_summed b, past_as b at count s.1)
-    in
-    let further-read : let b = c.args.text.now in Reading b (input_sizes b) (input_values b) c.next-m.result =
-    let b = c.args.text.now in reading b (input_sizes b) (input_values b) inputs_read.1 c.next-m.ensures
-    in
-    let outputs-read : let b = c.args.text.now in let r = c.sizes-outs.result in (r.sum ≡ outputs b) × (r.at ≡ past b (output_sizes b) (output_values b)) =
-    let b = c.args.text.now in
-    let m = further-read in
-    let s = c.sizes-outs.ensures.summed c.if-outs-ne0.false in
-    let at = m.end_is ∙ output_sizes_lem b in
-    let count = m.number_is ∙ output_values_lem b in
-    (sum_as b at count s.0 ∙ outputs_summed b, past_as b at count s.1)
-    in
-    let b = c.args.text.now in
-    let n = values-read in
-    let m = further-read in
-    (n.end_is ∙ input_sizes_lem b, n.number_is, m.end_is ∙ output_sizes_lem b, m.number_is ∙ output_values_lem b, outputs-read.0, c.if-n-ge4294967296.false, c.if-m-ge4294967296.false)
+    let x = not_number b 0 0 (sym (past_none b 0)) (sym c.number.ensures ∙ c.in_err-g.was) in
+    let f : c.from_residual.result ≡ Err c.in_err-g.field-0.0 = search rules in
+    f ∙ ap (λ r. Err r) x.1 ∙ given_text (head_answer b) (head_of b) _ _ (not_gates b x.0) refl
 
--- ---- the returns
-pub returns-then-gates-ge4294967296-clause-told : goal.returns-then-gates-ge4294967296-clause-told
-returns-then-gates-ge4294967296-clause-told c =
-    let gates-read : Reading c.args.text.now 0 0 c.next-g.result =
-    let b = c.args.text.now in reading b 0 0 (sym (past_none b 0)) c.next-g.ensures
-    in
-    let g = gates-read in
-    let r = c.refused.ensures in
-    told_same (telling (not_gates c.args.text.now (omega arith)) refl) r.0 (r.1 ∙ g.start_is)
+pub returns-in_err-w : goal.returns-in_err-w
+returns-in_err-w c =
+    let b = c.args.text.now in
+    let G = is_number b 0 0 (sym (past_none b 0)) (sym c.number.ensures ∙ c.in_ok-g.was) in
+    let x = not_number b 0 1 G.0.end_is (sym c.number-2.ensures ∙ c.in_err-w.was) in
+    let f : c.from_residual-in_err-w.result ≡ Err c.in_err-w.field-0.0 = search rules in
+    f ∙ ap (λ r. Err r) x.1 ∙ given_text (head_answer b) (head_of b) _ _ (not_wires b G.1 x.0) refl
 
-pub returns-then-wires-ge4294967296-clause-told : goal.returns-then-wires-ge4294967296-clause-told
-returns-then-wires-ge4294967296-clause-told c =
-    let gates-read : Reading c.args.text.now 0 0 c.next-g.result =
-    let b = c.args.text.now in reading b 0 0 (sym (past_none b 0)) c.next-g.ensures
-    in
-    let wires_read : Reading c.args.text.now 0 1 c.next-w.result =
-    reading c.args.text.now 0 1 gates-read.end_is c.next-w.ensures
-    in
-    let g = gates-read in
-    let w = wires_read in
-    let r = c.refused-then-wires-ge4294967296.ensures in
-    told_same (telling (not_wires c.args.text.now (omega arith) (omega arith)) refl) r.0 (r.1 ∙ w.start_is)
+pub returns-in_err-unless : goal.returns-in_err-unless
+returns-in_err-unless c =
+    let b = c.args.text.now in
+    let G = is_number b 0 0 (sym (past_none b 0)) (sym c.number.ensures ∙ c.in_ok-g.was) in
+    let W = is_number b 0 1 G.0.end_is (sym c.number-2.ensures ∙ c.in_ok-w.was) in
+    let f : c.from_residual-in_err-unless.result ≡ Err c.in_err-unless.field-0.0 = search rules in
+    f ∙ unless_text (leb c.in_ok-g.g.number c.in_ok-w.w.number) c.in_ok-w.w.start (head_answer b) (head_of b) (place_at b 0 1) (sym c.unless.ensures ∙ c.in_err-unless.was) W.0.start_is
+    (λ z. let l = leb-false c.in_ok-g.g.number c.in_ok-w.w.number z in let u = G.0.number_is in let v = W.0.number_is in few_wires b G.1 W.1 (omega arith))
 
-pub returns-then-wires-gates-clause-told : goal.returns-then-wires-gates-clause-told
-returns-then-wires-gates-clause-told c =
-    let gates-read : Reading c.args.text.now 0 0 c.next-g.result =
-    let b = c.args.text.now in reading b 0 0 (sym (past_none b 0)) c.next-g.ensures
-    in
-    let wires_read : Reading c.args.text.now 0 1 c.next-w.result =
-    reading c.args.text.now 0 1 gates-read.end_is c.next-w.ensures
-    in
-    let g = gates-read in
-    let w = wires_read in
-    let r = c.refused-then-wires-gates.ensures in
-    told_same (telling (few_wires c.args.text.now (omega arith) (omega arith) (omega arith)) refl) r.0 (r.1 ∙ w.start_is)
+pub returns-in_err-n : goal.returns-in_err-n
+returns-in_err-n c =
+    let b = c.args.text.now in
+    let G = is_number b 0 0 (sym (past_none b 0)) (sym c.number.ensures ∙ c.in_ok-g.was) in
+    let W = is_number b 0 1 G.0.end_is (sym c.number-2.ensures ∙ c.in_ok-w.was) in
+    let room = unless_held (leb c.in_ok-g.g.number c.in_ok-w.w.number) (Text c.in_ok-w.w.start) (sym c.unless.ensures ∙ c.in_ok-unless.was) in
+    let l = leb-true c.in_ok-g.g.number c.in_ok-w.w.number room in
+    let u = G.0.number_is in
+    let v = W.0.number_is in
+    let x = not_number b 0 2 W.0.end_is (sym c.number-3.ensures ∙ c.in_err-n.was) in
+    let f : c.from_residual-in_err-n.result ≡ Err c.in_err-n.field-0.0 = search rules in
+    f ∙ ap (λ r. Err r) x.1 ∙ given_text (head_answer b) (head_of b) _ _ (not_values b G.1 W.1 (omega arith) x.0) refl
 
-pub returns-then-n-ge4294967296-clause-told : goal.returns-then-n-ge4294967296-clause-told
-returns-then-n-ge4294967296-clause-told c =
-    let gates-read : Reading c.args.text.now 0 0 c.next-g.result =
-    let b = c.args.text.now in reading b 0 0 (sym (past_none b 0)) c.next-g.ensures
-    in
-    let wires_read : Reading c.args.text.now 0 1 c.next-w.result =
-    reading c.args.text.now 0 1 gates-read.end_is c.next-w.ensures
-    in
-    let values-read : Reading c.args.text.now 0 2 c.next-n.result =
-    reading c.args.text.now 0 2 wires_read.end_is c.next-n.ensures
-    in
-    let g = gates-read in
-    let w = wires_read in
-    let n = values-read in
-    let r = c.refused-then-n-ge4294967296.ensures in
-    told_same (telling (not_values c.args.text.now (omega arith) (omega arith) (omega arith) (omega arith)) refl) r.0 (r.1 ∙ n.start_is)
+pub returns-in_err-ins : goal.returns-in_err-ins
+returns-in_err-ins c =
+    let b = c.args.text.now in
+    let room = unless_held (leb c.in_ok-g.g.number c.in_ok-w.w.number) (Text c.in_ok-w.w.start) (sym c.unless.ensures ∙ c.in_ok-unless.was) in
+    let k = begun b (sym c.number.ensures ∙ c.in_ok-g.was) (sym c.number-2.ensures ∙ c.in_ok-w.was) room (sym c.number-3.ensures ∙ c.in_ok-n.was) in
+    let m = mapped_err (λ p. Text p) c.sizes.result c.map_err.result c.map_err.ensures.cases c.in_err-ins.was in
+    let told = inputs_told b k (c.sizes.ensures.told 11 (omega arith) ∙ ap (sizes_answer 11) m.1) in
+    let f : c.from_residual-in_err-ins.result ≡ Err c.in_err-ins.field-0.0 = search rules in
+    f ∙ ap (λ r. Err r) m.2 ∙ given_text (head_answer b) (head_of b) m.0 m.0 (inputs_refused b k.counts m.0 told) refl
 
-pub returns-then-ins-ne0-clause-told : goal.returns-then-ins-ne0-clause-told
-returns-then-ins-ne0-clause-told c =
-    let gates-read : Reading c.args.text.now 0 0 c.next-g.result =
-    let b = c.args.text.now in reading b 0 0 (sym (past_none b 0)) c.next-g.ensures
-    in
-    let wires_read : Reading c.args.text.now 0 1 c.next-w.result =
-    reading c.args.text.now 0 1 gates-read.end_is c.next-w.ensures
-    in
-    let values-read : Reading c.args.text.now 0 2 c.next-n.result =
-    reading c.args.text.now 0 2 wires_read.end_is c.next-n.ensures
-    in
-    let counts : Counts c.args.text.now =
-    let g = gates-read in
-    let w = wires_read in
-    let n = values-read in
-    record { gates_fit = omega arith; wires_fit = omega arith; room = omega arith; values_fit = omega arith }
-    in
-    let inputs-answered : Told (inputs_answer c.args.text.now) c.sizes-ins.result.number c.sizes-ins.result.place =
+pub returns-in_err-unless-2 : goal.returns-in_err-unless-2
+returns-in_err-unless-2 c =
     let b = c.args.text.now in
-    let g = gates-read.number_is in
-    let w = wires_read.number_is in
-    let n = values-read in
-    let e : c.next-w.result.number - c.next-g.result.number ≡ wires b - gates b = cc in
-    sizes_as b 11 (n.end_is ∙ input_sizes_lem b) e n.number_is c.sizes-ins.ensures.told
-    in
-    let r = c.refused-then-ins-ne0.ensures in
-    told_same (inputs_refused c.args.text.now counts inputs-answered c.if-ins-ne0.true) r.0 r.1
+    let room = unless_held (leb c.in_ok-g.g.number c.in_ok-w.w.number) (Text c.in_ok-w.w.start) (sym c.unless.ensures ∙ c.in_ok-unless.was) in
+    let k = begun b (sym c.number.ensures ∙ c.in_ok-g.was) (sym c.number-2.ensures ∙ c.in_ok-w.was) room (sym c.number-3.ensures ∙ c.in_ok-n.was) in
+    let i = mapped_ok (λ p. Text p) c.sizes.result c.map_err.result c.map_err.ensures.cases c.in_ok-ins.was in
+    let inputs_none = ap (λ (a : Answer). a.number) (inputs_told b k (c.sizes.ensures.told 11 (omega arith) ∙ ap (sizes_answer 11) i)) in
+    let s = if_ok (λ s. (s.sum ≡ sizes_to b c.in_ok-n.n.end c.in_ok-n.n.number) × (s.at ≡ past b c.in_ok-n.n.end c.in_ok-n.n.number)) c.sizes.result c.in_ok-ins.ins c.sizes.ensures.summed i in
+    let last = reading b 0 (2 + input_values b) (c.skip.ensures ∙ ap (λ q. past b q c.in_ok-n.n.number) k.wires_read.end_is ∙ ap (past b (past b 0 2)) k.values_read.number_is ∙ sym (past_more b 0 2 (input_values b))) c.next-last.ensures in
+    let f : c.from_residual-in_err-unless-2.result ≡ Err c.in_err-unless-2.field-0.0 = search rules in
+    f ∙ unless_text c.all_set.result c.next-last.result.start (head_answer b) (head_of b) (place_at b 0 (2 + input_values b)) (sym c.unless-2.ensures ∙ c.in_err-unless-2.was) last.start_is
+    (λ z. wires_left b k.counts inputs_none (sym (set_read b k c.in_ok-ins.ins s c.all_set.ensures) ∙ z))
 
-pub returns-then-not-all_set-clause-told : goal.returns-then-not-all_set-clause-told
-returns-then-not-all_set-clause-told c =
-    let gates-read : Reading c.args.text.now 0 0 c.next-g.result =
-    let b = c.args.text.now in reading b 0 0 (sym (past_none b 0)) c.next-g.ensures
-    in
-    let wires_read : Reading c.args.text.now 0 1 c.next-w.result =
-    reading c.args.text.now 0 1 gates-read.end_is c.next-w.ensures
-    in
-    let values-read : Reading c.args.text.now 0 2 c.next-n.result =
-    reading c.args.text.now 0 2 wires_read.end_is c.next-n.ensures
-    in
-    let counts : Counts c.args.text.now =
-    let g = gates-read in
-    let w = wires_read in
-    let n = values-read in
-    record { gates_fit = omega arith; wires_fit = omega arith; room = omega arith; values_fit = omega arith }
-    in
-    let inputs-answered : Told (inputs_answer c.args.text.now) c.sizes-ins.result.number c.sizes-ins.result.place =
+pub returns-in_err-m : goal.returns-in_err-m
+returns-in_err-m c =
     let b = c.args.text.now in
-    let g = gates-read.number_is in
-    let w = wires_read.number_is in
-    let n = values-read in
-    let e : c.next-w.result.number - c.next-g.result.number ≡ wires b - gates b = cc in
-    sizes_as b 11 (n.end_is ∙ input_sizes_lem b) e n.number_is c.sizes-ins.ensures.told
-    in
-    let inputs-none : (inputs_answer c.args.text.now).number ≡ 0 =
-    sym inputs-answered.number_is ∙ c.if-ins-ne0.false
-    in
-    let inputs_read : let b = c.args.text.now in let r = c.sizes-ins.result in (r.sum ≡ inputs b) × (r.at ≡ past b (input_sizes b) (input_values b)) =
-    let b = c.args.text.now in
-    let n = values-read in
-    let s = c.sizes-ins.ensures.summed c.if-ins-ne0.false in
-    let at = n.end_is ∙ input_sizes_lem b in
-    let count = n.number_is in
-    (sum_as b at count s.0 ∙ inputs_summed b, past_as b at count s.1)
-    in
-    let set-read : let b = c.args.text.now in c.all_set.result ≡ (ltb 0 (gates b) || eqb (inputs b) (wires b)) =
-    let b = c.args.text.now in
-    set_as b gates-read.number_is inputs_read.0 wires_read.number_is c.all_set.ensures
-    in
-    let b = c.args.text.now in
-    let r = c.refused-then-not-all_set.ensures in
-    let w = wires_read in
-    let n = values-read in
-    let last = reading b 0 (2 + input_values b) (past_as b w.end_is n.number_is c.skip.ensures ∙ sym (past_more b 0 2 (input_values b))) c.next-last.ensures in told_same (wires_left b counts inputs-none (sym set-read ∙ c.if-not-all_set.true)) r.0 (r.1 ∙ last.start_is)
+    let room = unless_held (leb c.in_ok-g.g.number c.in_ok-w.w.number) (Text c.in_ok-w.w.start) (sym c.unless.ensures ∙ c.in_ok-unless.was) in
+    let k = begun b (sym c.number.ensures ∙ c.in_ok-g.was) (sym c.number-2.ensures ∙ c.in_ok-w.was) room (sym c.number-3.ensures ∙ c.in_ok-n.was) in
+    let i = mapped_ok (λ p. Text p) c.sizes.result c.map_err.result c.map_err.ensures.cases c.in_ok-ins.was in
+    let inputs_none = ap (λ (a : Answer). a.number) (inputs_told b k (c.sizes.ensures.told 11 (omega arith) ∙ ap (sizes_answer 11) i)) in
+    let s = if_ok (λ s. (s.sum ≡ sizes_to b c.in_ok-n.n.end c.in_ok-n.n.number) × (s.at ≡ past b c.in_ok-n.n.end c.in_ok-n.n.number)) c.sizes.result c.in_ok-ins.ins c.sizes.ensures.summed i in
+    let all = sym (set_read b k c.in_ok-ins.ins s c.all_set.ensures) ∙ unless_held c.all_set.result (Text c.next-last.result.start) (sym c.unless-2.ensures ∙ c.in_ok-unless-2.was) in
+    let x = not_number b (input_sizes b) (input_values b) (values_next b k c.in_ok-ins.ins s) (sym c.number-4.ensures ∙ c.in_err-m.was) in
+    let q = output_values_lem b in
+    let f : c.from_residual-in_err-m.result ≡ Err c.in_err-m.field-0.0 = search rules in
+    f ∙ ap (λ r. Err r) x.1 ∙ given_text (head_answer b) (head_of b) _ _ (not_outputs b k.counts inputs_none all (omega (arith, x.0))) refl
 
-pub returns-then-m-ge4294967296-clause-told : goal.returns-then-m-ge4294967296-clause-told
-returns-then-m-ge4294967296-clause-told c =
-    let gates-read : Reading c.args.text.now 0 0 c.next-g.result =
-    let b = c.args.text.now in reading b 0 0 (sym (past_none b 0)) c.next-g.ensures
-    in
-    let wires_read : Reading c.args.text.now 0 1 c.next-w.result =
-    reading c.args.text.now 0 1 gates-read.end_is c.next-w.ensures
-    in
-    let values-read : Reading c.args.text.now 0 2 c.next-n.result =
-    reading c.args.text.now 0 2 wires_read.end_is c.next-n.ensures
-    in
-    let inputs_read : let b = c.args.text.now in let r = c.sizes-ins.result in (r.sum ≡ inputs b) × (r.at ≡ past b (input_sizes b) (input_values b)) =
+pub returns-in_err-outs : goal.returns-in_err-outs
+returns-in_err-outs c =
     let b = c.args.text.now in
-    let n = values-read in
-    let s = c.sizes-ins.ensures.summed c.if-ins-ne0.false in
-    let at = n.end_is ∙ input_sizes_lem b in
-    let count = n.number_is in
-    (sum_as b at count s.0 ∙ inputs_summed b, past_as b at count s.1)
-    in
-    let further-read : let b = c.args.text.now in Reading b (input_sizes b) (input_values b) c.next-m.result =
-    let b = c.args.text.now in reading b (input_sizes b) (input_values b) inputs_read.1 c.next-m.ensures
-    in
-    let counts : Counts c.args.text.now =
-    let g = gates-read in
-    let w = wires_read in
-    let n = values-read in
-    record { gates_fit = omega arith; wires_fit = omega arith; room = omega arith; values_fit = omega arith }
-    in
-    let inputs-answered : Told (inputs_answer c.args.text.now) c.sizes-ins.result.number c.sizes-ins.result.place =
-    let b = c.args.text.now in
-    let g = gates-read.number_is in
-    let w = wires_read.number_is in
-    let n = values-read in
-    let e : c.next-w.result.number - c.next-g.result.number ≡ wires b - gates b = cc in
-    sizes_as b 11 (n.end_is ∙ input_sizes_lem b) e n.number_is c.sizes-ins.ensures.told
-    in
-    let inputs-none : (inputs_answer c.args.text.now).number ≡ 0 =
-    sym inputs-answered.number_is ∙ c.if-ins-ne0.false
-    in
-    let set-read : let b = c.args.text.now in c.all_set.result ≡ (ltb 0 (gates b) || eqb (inputs b) (wires b)) =
-    let b = c.args.text.now in
-    set_as b gates-read.number_is inputs_read.0 wires_read.number_is c.all_set.ensures
-    in
-    let b = c.args.text.now in
-    let r = c.refused-then-m-ge4294967296.ensures in
-    let m = further-read in
-    let v = m.number_is ∙ output_values_lem b in told_same (not_outputs b counts inputs-none (sym set-read ∙ c.if-not-all_set.false) (omega (arith, c.if-m-ge4294967296.true))) r.0 (r.1 ∙ m.start_is)
+    let room = unless_held (leb c.in_ok-g.g.number c.in_ok-w.w.number) (Text c.in_ok-w.w.start) (sym c.unless.ensures ∙ c.in_ok-unless.was) in
+    let k = begun b (sym c.number.ensures ∙ c.in_ok-g.was) (sym c.number-2.ensures ∙ c.in_ok-w.was) room (sym c.number-3.ensures ∙ c.in_ok-n.was) in
+    let i = mapped_ok (λ p. Text p) c.sizes.result c.map_err.result c.map_err.ensures.cases c.in_ok-ins.was in
+    let inputs_none = ap (λ (a : Answer). a.number) (inputs_told b k (c.sizes.ensures.told 11 (omega arith) ∙ ap (sizes_answer 11) i)) in
+    let s = if_ok (λ s. (s.sum ≡ sizes_to b c.in_ok-n.n.end c.in_ok-n.n.number) × (s.at ≡ past b c.in_ok-n.n.end c.in_ok-n.n.number)) c.sizes.result c.in_ok-ins.ins c.sizes.ensures.summed i in
+    let all = sym (set_read b k c.in_ok-ins.ins s c.all_set.ensures) ∙ unless_held c.all_set.result (Text c.next-last.result.start) (sym c.unless-2.ensures ∙ c.in_ok-unless-2.was) in
+    let M = is_number b (input_sizes b) (input_values b) (values_next b k c.in_ok-ins.ins s) (sym c.number-4.ensures ∙ c.in_ok-m.was) in
+    let m = mapped_err (λ p. Text p) c.sizes-2.result c.map_err-2.result c.map_err-2.ensures.cases c.in_err-outs.was in
+    let told = outputs_told b k c.in_ok-ins.ins s M.0 (c.sizes-2.ensures.told 11 (omega arith) ∙ ap (sizes_answer 11) m.1) in
+    let q = output_values_lem b in
+    let f : c.from_residual-in_err-outs.result ≡ Err c.in_err-outs.field-0.0 = search rules in
+    f ∙ ap (λ r. Err r) m.2 ∙ given_text (head_answer b) (head_of b) m.0 m.0 (outputs_decide b k.counts inputs_none all (omega (arith, M.1)) ∙ told) refl
 
-pub returns-then-outs-ne0-clause-told : goal.returns-then-outs-ne0-clause-told
-returns-then-outs-ne0-clause-told c =
-    let gates-read : Reading c.args.text.now 0 0 c.next-g.result =
-    let b = c.args.text.now in reading b 0 0 (sym (past_none b 0)) c.next-g.ensures
-    in
-    let wires_read : Reading c.args.text.now 0 1 c.next-w.result =
-    reading c.args.text.now 0 1 gates-read.end_is c.next-w.ensures
-    in
-    let values-read : Reading c.args.text.now 0 2 c.next-n.result =
-    reading c.args.text.now 0 2 wires_read.end_is c.next-n.ensures
-    in
-    let inputs_read : let b = c.args.text.now in let r = c.sizes-ins.result in (r.sum ≡ inputs b) × (r.at ≡ past b (input_sizes b) (input_values b)) =
+pub head_limit-requires : goal.head_limit-requires
+head_limit-requires c =
     let b = c.args.text.now in
-    let n = values-read in
-    let s = c.sizes-ins.ensures.summed c.if-ins-ne0.false in
-    let at = n.end_is ∙ input_sizes_lem b in
-    let count = n.number_is in
-    (sum_as b at count s.0 ∙ inputs_summed b, past_as b at count s.1)
-    in
-    let further-read : let b = c.args.text.now in Reading b (input_sizes b) (input_values b) c.next-m.result =
-    let b = c.args.text.now in reading b (input_sizes b) (input_values b) inputs_read.1 c.next-m.ensures
-    in
-    let counts : Counts c.args.text.now =
-    let g = gates-read in
-    let w = wires_read in
-    let n = values-read in
-    record { gates_fit = omega arith; wires_fit = omega arith; room = omega arith; values_fit = omega arith }
-    in
-    let inputs-answered : Told (inputs_answer c.args.text.now) c.sizes-ins.result.number c.sizes-ins.result.place =
-    let b = c.args.text.now in
-    let g = gates-read.number_is in
-    let w = wires_read.number_is in
-    let n = values-read in
-    let e : c.next-w.result.number - c.next-g.result.number ≡ wires b - gates b = cc in
-    sizes_as b 11 (n.end_is ∙ input_sizes_lem b) e n.number_is c.sizes-ins.ensures.told
-    in
-    let inputs-none : (inputs_answer c.args.text.now).number ≡ 0 =
-    sym inputs-answered.number_is ∙ c.if-ins-ne0.false
-    in
-    let set-read : let b = c.args.text.now in c.all_set.result ≡ (ltb 0 (gates b) || eqb (inputs b) (wires b)) =
-    let b = c.args.text.now in
-    set_as b gates-read.number_is inputs_read.0 wires_read.number_is c.all_set.ensures
-    in
-    let outputs-answered : Told (outputs_answer c.args.text.now) c.sizes-outs.result.number c.sizes-outs.result.place =
-    let b = c.args.text.now in
-    let m = further-read in
-    sizes_as b 11 (m.end_is ∙ output_sizes_lem b) wires_read.number_is (m.number_is ∙ output_values_lem b) c.sizes-outs.ensures.told
-    in
-    let answered : Told (head_answer c.args.text.now) c.sizes-outs.result.number c.sizes-outs.result.place =
-    let b = c.args.text.now in
-    let m = further-read.number_is ∙ output_values_lem b in
-    outputs_told b counts inputs-none (sym set-read ∙ c.if-not-all_set.false) (omega (arith, c.if-m-ge4294967296.false)) outputs-answered
-    in
-    let r = c.refused-then-outs-ne0.ensures in told_same answered r.0 r.1
+    let room = unless_held (leb c.in_ok-g.g.number c.in_ok-w.w.number) (Text c.in_ok-w.w.start) (sym c.unless.ensures ∙ c.in_ok-unless.was) in
+    let k = begun b (sym c.number.ensures ∙ c.in_ok-g.was) (sym c.number-2.ensures ∙ c.in_ok-w.was) room (sym c.number-3.ensures ∙ c.in_ok-n.was) in
+    let i = mapped_ok (λ p. Text p) c.sizes.result c.map_err.result c.map_err.ensures.cases c.in_ok-ins.was in
+    let s = if_ok (λ s. (s.sum ≡ sizes_to b c.in_ok-n.n.end c.in_ok-n.n.number) × (s.at ≡ past b c.in_ok-n.n.end c.in_ok-n.n.number)) c.sizes.result c.in_ok-ins.ins c.sizes.ensures.summed i in
+    let M = is_number b (input_sizes b) (input_values b) (values_next b k c.in_ok-ins.ins s) (sym c.number-4.ensures ∙ c.in_ok-m.was) in
+    let o = mapped_ok (λ p. Text p) c.sizes-2.result c.map_err-2.result c.map_err-2.ensures.cases c.in_ok-outs.was in
+    let t = if_ok (λ t. (t.sum ≡ sizes_to b c.in_ok-m.m.end c.in_ok-m.m.number) × (t.at ≡ past b c.in_ok-m.m.end c.in_ok-m.m.number)) c.sizes-2.result c.in_ok-outs.outs c.sizes-2.ensures.summed o in
+    let n = k.values_read in
+    let q = M.0.number_is in
+    let z = n.number_is in
+    let v = k.counts.values_fit in
+    (n.end_is ∙ input_sizes_lem b, n.number_is, M.0.end_is ∙ output_sizes_lem b, M.0.number_is ∙ output_values_lem b, outputs_are b k c.in_ok-ins.ins s M.0 t.0, omega arith, omega (arith, M.1))
 
-pub returns-clause-told : goal.returns-clause-told
-returns-clause-told c =
-    let gates-read : Reading c.args.text.now 0 0 c.next-g.result =
-    let b = c.args.text.now in reading b 0 0 (sym (past_none b 0)) c.next-g.ensures
-    in
-    let wires_read : Reading c.args.text.now 0 1 c.next-w.result =
-    reading c.args.text.now 0 1 gates-read.end_is c.next-w.ensures
-    in
-    let values-read : Reading c.args.text.now 0 2 c.next-n.result =
-    reading c.args.text.now 0 2 wires_read.end_is c.next-n.ensures
-    in
-    let inputs_read : let b = c.args.text.now in let r = c.sizes-ins.result in (r.sum ≡ inputs b) × (r.at ≡ past b (input_sizes b) (input_values b)) =
+pub returns : goal.returns
+unfolding head_of
+returns c =
     let b = c.args.text.now in
-    let n = values-read in
-    let s = c.sizes-ins.ensures.summed c.if-ins-ne0.false in
-    let at = n.end_is ∙ input_sizes_lem b in
-    let count = n.number_is in
-    (sum_as b at count s.0 ∙ inputs_summed b, past_as b at count s.1)
-    in
-    let further-read : let b = c.args.text.now in Reading b (input_sizes b) (input_values b) c.next-m.result =
-    let b = c.args.text.now in reading b (input_sizes b) (input_values b) inputs_read.1 c.next-m.ensures
-    in
-    let counts : Counts c.args.text.now =
-    let g = gates-read in
-    let w = wires_read in
-    let n = values-read in
-    record { gates_fit = omega arith; wires_fit = omega arith; room = omega arith; values_fit = omega arith }
-    in
-    let inputs-answered : Told (inputs_answer c.args.text.now) c.sizes-ins.result.number c.sizes-ins.result.place =
-    let b = c.args.text.now in
-    let g = gates-read.number_is in
-    let w = wires_read.number_is in
-    let n = values-read in
-    let e : c.next-w.result.number - c.next-g.result.number ≡ wires b - gates b = cc in
-    sizes_as b 11 (n.end_is ∙ input_sizes_lem b) e n.number_is c.sizes-ins.ensures.told
-    in
-    let inputs-none : (inputs_answer c.args.text.now).number ≡ 0 =
-    sym inputs-answered.number_is ∙ c.if-ins-ne0.false
-    in
-    let set-read : let b = c.args.text.now in c.all_set.result ≡ (ltb 0 (gates b) || eqb (inputs b) (wires b)) =
-    let b = c.args.text.now in
-    set_as b gates-read.number_is inputs_read.0 wires_read.number_is c.all_set.ensures
-    in
-    let outputs-answered : Told (outputs_answer c.args.text.now) c.sizes-outs.result.number c.sizes-outs.result.place =
-    let b = c.args.text.now in
-    let m = further-read in
-    sizes_as b 11 (m.end_is ∙ output_sizes_lem b) wires_read.number_is (m.number_is ∙ output_values_lem b) c.sizes-outs.ensures.told
-    in
-    let answered : Told (head_answer c.args.text.now) c.sizes-outs.result.number c.sizes-outs.result.place =
-    let b = c.args.text.now in
-    let m = further-read.number_is ∙ output_values_lem b in
-    outputs_told b counts inputs-none (sym set-read ∙ c.if-not-all_set.false) (omega (arith, c.if-m-ge4294967296.false)) outputs-answered
-    in
-    let outputs-read : let b = c.args.text.now in let r = c.sizes-outs.result in (r.sum ≡ outputs b) × (r.at ≡ past b (output_sizes b) (output_values b)) =
-    let b = c.args.text.now in
-    let m = further-read in
-    let s = c.sizes-outs.ensures.summed c.if-outs-ne0.false in
-    let at = m.end_is ∙ output_sizes_lem b in
-    let count = m.number_is ∙ output_values_lem b in
-    (sum_as b at count s.0 ∙ outputs_summed b, past_as b at count s.1)
-    in
-    let b = c.args.text.now in
-    let f = c.formed.ensures in
-    let t = answered in
-    let none = head_done b (head_good b (sym t.number_is ∙ c.if-outs-ne0.false)) in told_same t (f.number_value.0 ∙ sym c.if-outs-ne0.false) (f.number_value.1 ∙ sym (t.place_is ∙ ap (λ (a : Answer). a.place) none))
-
-pub returns-clause-says : goal.returns-clause-says
-returns-clause-says c =
-    let gates-read : Reading c.args.text.now 0 0 c.next-g.result =
-    let b = c.args.text.now in reading b 0 0 (sym (past_none b 0)) c.next-g.ensures
-    in
-    let wires_read : Reading c.args.text.now 0 1 c.next-w.result =
-    reading c.args.text.now 0 1 gates-read.end_is c.next-w.ensures
-    in
-    let values-read : Reading c.args.text.now 0 2 c.next-n.result =
-    reading c.args.text.now 0 2 wires_read.end_is c.next-n.ensures
-    in
-    let inputs_read : let b = c.args.text.now in let r = c.sizes-ins.result in (r.sum ≡ inputs b) × (r.at ≡ past b (input_sizes b) (input_values b)) =
-    let b = c.args.text.now in
-    let n = values-read in
-    let s = c.sizes-ins.ensures.summed c.if-ins-ne0.false in
-    let at = n.end_is ∙ input_sizes_lem b in
-    let count = n.number_is in
-    (sum_as b at count s.0 ∙ inputs_summed b, past_as b at count s.1)
-    in
-    let further-read : let b = c.args.text.now in Reading b (input_sizes b) (input_values b) c.next-m.result =
-    let b = c.args.text.now in reading b (input_sizes b) (input_values b) inputs_read.1 c.next-m.ensures
-    in
-    let counts : Counts c.args.text.now =
-    let g = gates-read in
-    let w = wires_read in
-    let n = values-read in
-    record { gates_fit = omega arith; wires_fit = omega arith; room = omega arith; values_fit = omega arith }
-    in
-    let inputs-answered : Told (inputs_answer c.args.text.now) c.sizes-ins.result.number c.sizes-ins.result.place =
-    let b = c.args.text.now in
-    let g = gates-read.number_is in
-    let w = wires_read.number_is in
-    let n = values-read in
-    let e : c.next-w.result.number - c.next-g.result.number ≡ wires b - gates b = cc in
-    sizes_as b 11 (n.end_is ∙ input_sizes_lem b) e n.number_is c.sizes-ins.ensures.told
-    in
-    let inputs-none : (inputs_answer c.args.text.now).number ≡ 0 =
-    sym inputs-answered.number_is ∙ c.if-ins-ne0.false
-    in
-    let set-read : let b = c.args.text.now in c.all_set.result ≡ (ltb 0 (gates b) || eqb (inputs b) (wires b)) =
-    let b = c.args.text.now in
-    set_as b gates-read.number_is inputs_read.0 wires_read.number_is c.all_set.ensures
-    in
-    let outputs-answered : Told (outputs_answer c.args.text.now) c.sizes-outs.result.number c.sizes-outs.result.place =
-    let b = c.args.text.now in
-    let m = further-read in
-    sizes_as b 11 (m.end_is ∙ output_sizes_lem b) wires_read.number_is (m.number_is ∙ output_values_lem b) c.sizes-outs.ensures.told
-    in
-    let answered : Told (head_answer c.args.text.now) c.sizes-outs.result.number c.sizes-outs.result.place =
-    let b = c.args.text.now in
-    let m = further-read.number_is ∙ output_values_lem b in
-    outputs_told b counts inputs-none (sym set-read ∙ c.if-not-all_set.false) (omega (arith, c.if-m-ge4294967296.false)) outputs-answered
-    in
-    let outputs-read : let b = c.args.text.now in let r = c.sizes-outs.result in (r.sum ≡ outputs b) × (r.at ≡ past b (output_sizes b) (output_values b)) =
-    let b = c.args.text.now in
-    let m = further-read in
-    let s = c.sizes-outs.ensures.summed c.if-outs-ne0.false in
-    let at = m.end_is ∙ output_sizes_lem b in
-    let count = m.number_is ∙ output_values_lem b in
-    (sum_as b at count s.0 ∙ outputs_summed b, past_as b at count s.1)
-    in
-    let b = c.args.text.now in
-    let f = c.formed.ensures in
-    let t = answered in
-    let none = head_done b (head_good b (sym t.number_is ∙ c.if-outs-ne0.false)) in λ z. record {
-      gates_are = f.says.0 ∙ gates-read.number_is;
-      wires_are = f.says.1 ∙ wires_read.number_is;
-      inputs_are = f.says.2 ∙ inputs_read.0;
-      outputs_are = f.says.3 ∙ outputs-read.0;
-      body_is = f.says.4 ∙ outputs-read.1 ∙ body_place b;
-      limit_is = told_same c.head_limit-limit.ensures f.says.5 f.says.6;
-    }
+    let room = unless_held (leb c.in_ok-g.g.number c.in_ok-w.w.number) (Text c.in_ok-w.w.start) (sym c.unless.ensures ∙ c.in_ok-unless.was) in
+    let k = begun b (sym c.number.ensures ∙ c.in_ok-g.was) (sym c.number-2.ensures ∙ c.in_ok-w.was) room (sym c.number-3.ensures ∙ c.in_ok-n.was) in
+    let i = mapped_ok (λ p. Text p) c.sizes.result c.map_err.result c.map_err.ensures.cases c.in_ok-ins.was in
+    let inputs_none = ap (λ (a : Answer). a.number) (inputs_told b k (c.sizes.ensures.told 11 (omega arith) ∙ ap (sizes_answer 11) i)) in
+    let s = if_ok (λ s. (s.sum ≡ sizes_to b c.in_ok-n.n.end c.in_ok-n.n.number) × (s.at ≡ past b c.in_ok-n.n.end c.in_ok-n.n.number)) c.sizes.result c.in_ok-ins.ins c.sizes.ensures.summed i in
+    let all = sym (set_read b k c.in_ok-ins.ins s c.all_set.ensures) ∙ unless_held c.all_set.result (Text c.next-last.result.start) (sym c.unless-2.ensures ∙ c.in_ok-unless-2.was) in
+    let M = is_number b (input_sizes b) (input_values b) (values_next b k c.in_ok-ins.ins s) (sym c.number-4.ensures ∙ c.in_ok-m.was) in
+    let o = mapped_ok (λ p. Text p) c.sizes-2.result c.map_err-2.result c.map_err-2.ensures.cases c.in_ok-outs.was in
+    let t = if_ok (λ t. (t.sum ≡ sizes_to b c.in_ok-m.m.end c.in_ok-m.m.number) × (t.at ≡ past b c.in_ok-m.m.end c.in_ok-m.m.number)) c.sizes-2.result c.in_ok-outs.outs c.sizes-2.ensures.summed o in
+    let told = outputs_told b k c.in_ok-ins.ins s M.0 (c.sizes-2.ensures.told 11 (omega arith) ∙ ap (sizes_answer 11) o) in
+    let q = output_values_lem b in
+    let none = ap (λ (a : Answer). a.number) (outputs_decide b k.counts inputs_none all (omega (arith, M.1)) ∙ told) in
+    given_value (head_answer b) (head_of b) none
+    (λ j. record {
+      gates = k.gates_read.number_is j;
+      wires = k.wires_read.number_is j;
+      inputs = inputs_are b k c.in_ok-ins.ins s j;
+      outputs = outputs_are b k c.in_ok-ins.ins s M.0 t.0 j;
+      body = body_is b k c.in_ok-ins.ins s M.0 t.1 j;
+      limit = c.head_limit.ensures j;
+    })

@@ -1,12 +1,12 @@
--- `key::generate::encrypted` meets its contract: the last word is the sum of the three.
+-- `key::generate::encrypted` meets its contract: the masks, and behind them the sum of the three.
 -- Assumes nothing.
-use mathlib.Core.Path.{ap, ◌∙◌}
-use mathlib.Core.List.{[], ◌∷◌, ◌++◌}
-use Prim.Native.Nat.{ℕ}
-use Rattle.key.proofs.Draws.{body_code}
+use Rattle.std.proofs.Common.{ap, ap₂, ◌∙◌, ℕ, List, [], ◌∷◌, ◌++◌}
+use native.Mathlib.Omega.{arith}
+use Rattle.key.proofs.Draws.{body_code, last_set}
 use Rattle.key.proofs.generate.encrypted.Goals as goal
 
 pub returns : goal.returns
 returns c =
     let g = c.args in
-    c.put.ensures ∙ ap (λ (x : ℕ). g.masks.now ++ (x ∷ [])) (body_code _ g.word g.noise c.masks_sum-sum.ensures c.add.ensures c.add-2.ensures)
+    ap₂ (λ (x y : List ℕ). x ++ y) c.copy_from_slice.ensures.after
+    (last_set _ _ (omega arith) ∙ ap (λ (x : ℕ). x ∷ []) (body_code _ g.word g.noise c.masks_sum.ensures c.add.ensures c.add-2.ensures))

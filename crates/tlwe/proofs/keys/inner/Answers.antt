@@ -5,22 +5,16 @@ use mathlib.Core.Path.{ap, ◌∙◌}
 use native.Mathlib.Nat.{mod-mod}
 use native.Mathlib.Omega.{arith}
 use Rattle.ring.specs.Word.{Q}
-use Rattle.ring.specs.Phase.{inner}
-use Rattle.ring.proofs.SumLaws.{sum_none, sum_step, sum_done}
+use Rattle.ring.proofs.SumLaws.{sum_none, sum_step}
 use Rattle.tlwe.proofs.Checks.{key_none, key_more}
 use Rattle.tlwe.proofs.keys.inner.Goals as goal
 
 pub loop-i-init : goal.loop-i-init
-loop-i-init c = (omega arith, sum_none _, key_none c.args.key.now)
+loop-i-init c = (sum_none _, key_none c.args.key.now)
 
 pub loop-i-preserved : goal.loop-i-preserved
 loop-i-preserved c =
     let b = c.loop-i in (
-      omega arith,
-      sum_step _ b.i _ b.invariant.1 (ap (λ (t : ℕ). t % Q) c.mul.ensures ∙ mod-mod _ Q) c.add-sum.ensures,
-      key_more c.args.key.now b.i b.seen (omega arith) b.invariant.2,
+      sum_step _ b.i _ b.invariant.0 (ap (λ (t : ℕ). t % Q) c.mul.ensures ∙ mod-mod _ Q) c.add-sum.ensures,
+      key_more c.args.key.now b.i b.seen (omega arith) b.invariant.1,
     )
-
-pub returns-clause-word : goal.returns-clause-word
-unfolding inner
-returns-clause-word c = let b = c.loop-i in sum_done _ b.invariant.0 c.loop-i-test.false b.invariant.1

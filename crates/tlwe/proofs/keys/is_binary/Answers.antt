@@ -1,13 +1,12 @@
--- `tlwe::keys::is_binary` meets its contract. The loop's invariant: what was seen is at most 1 where the words passed are binary.
+-- `tlwe::keys::is_binary` meets its contract: what was seen of some words is at most 1 where those are binary.
 -- Assumes nothing.
-use native.Mathlib.Omega.{arith}
-use Rattle.tlwe.proofs.Checks.{key_none, key_more}
+use Rattle.std.proofs.Common.{◌≡◌, subst, rules, refl, leb}
+use Rattle.std.proofs.lemmas.Fn.{fold_over, slice_gives, fronts}
+use Rattle.tlwe.specs.Key.{binary}
+use Rattle.tlwe.proofs.Checks.{key_push}
 use Rattle.tlwe.proofs.keys.is_binary.Goals as goal
 
-pub loop-i-init : goal.loop-i-init
-loop-i-init c = (omega arith, key_none c.args.key.now)
-
-pub loop-i-preserved : goal.loop-i-preserved
-loop-i-preserved c =
-    let b = c.loop-i in
-    (omega arith, key_more c.args.key.now b.i b.seen (omega arith) b.invariant.1)
+pub returns : goal.returns
+unfolding binary
+returns c = subst (λ ks. leb c.fold.result 1 ≡ binary ks) c.iter.ensures.rest
+    (fold_over fronts (λ y. y.now) _ (λ ks n. leb n 1 ≡ binary ks) _ (λ ks a k b f' j call. let p = key_push ks a k.now j in search rules) _ _ _ _ (slice_gives c.iter.result) refl c.fold.ensures.ran)

@@ -1,15 +1,13 @@
 -- `tlwe::linear::combine_into` meets its contract: a loop that writes the words from the front.
 -- Assumes nothing.
-use mathlib.Core.Path.{refl}
-use native.Mathlib.Omega.{arith}
-use lib.ListN.{length-set}
-use Rattle.ring.proofs.Tab.{tab_none, tab_more}
+use Rattle.std.proofs.Common.{◌+◌, ◌*◌, ◌%◌, arith, refl, ◌∙◌}
+use Rattle.ring.specs.Word.{Q, at}
+use Rattle.ring.proofs.Tab.{tab_of}
+use Rattle.tlwe.proofs.Sums.{as_combined}
 use Rattle.tlwe.proofs.linear.combine_into.Goals as goal
 
-pub loop-i-init : goal.loop-i-init
-loop-i-init c = (omega arith, refl, tab_none _ _)
-
-pub loop-i-preserved : goal.loop-i-preserved
-loop-i-preserved c =
-    let b = c.loop-i in
-    (omega arith, simp length-set b.invariant.1, tab_more _ _ b.i (omega arith) b.invariant.2 c.weighted.ensures)
+pub returns : goal.returns
+returns c =
+    let g = c.args in
+    tab_of _ _ (λ i. (g.x * at g.a.now i + g.y * at g.b.now i) % Q) c.loop-i.auto.out (λ k h. c.loop-i.invariant k (omega arith))
+    ∙ as_combined _ _ _ _ _ _ (λ i l. refl)

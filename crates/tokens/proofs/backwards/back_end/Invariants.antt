@@ -4,6 +4,3 @@ use Rattle.tokens.proofs.backwards.back_end.Given as goal
 
 abbrev pub invariant-loop-p : goal.invariant-loop-p
 invariant-loop-p l = back_end l.text l.s ≡ back_end l.text l.p
-
-abbrev pub decreases-loop-p : goal.decreases-loop-p
-decreases-loop-p l = l.p

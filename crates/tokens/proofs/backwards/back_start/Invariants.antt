@@ -4,6 +4,3 @@ use Rattle.tokens.proofs.backwards.back_start.Given as goal
 
 abbrev pub invariant-loop-p : goal.invariant-loop-p
 invariant-loop-p l = back_start l.text l.e ≡ back_start l.text l.p
-
-abbrev pub decreases-loop-p : goal.decreases-loop-p
-decreases-loop-p l = l.p
