@@ -1,11 +1,11 @@
 -- What the kinds of a circuit need, by their ways. The numbers of operands are tested over the table of kinds.
 -- Assumes nothing.
 use mathlib.Core.Path.{◌≡◌, refl, ◌∙◌}
-use mathlib.Core.Bool.{Bool}
+use mathlib.Core.Bool.{Bool, false}
 use Prim.Native.Nat.{ℕ, zero, suc, ◌≤◌, ◌<◌}
 use native.Mathlib.Omega.{arith}
 use lib.Dec.{leb, eqb, eqb→eq, leb→le}
-use lib.ListN.{get_or}
+use lib.ListN.{get_or, get_or-eq_default}
 use Rattle.kinds.specs.Kinds.{kind_of}
 use Rattle.kinds.proofs.Table.{entry}
 use Rattle.kinds.proofs.Columns.{operand_table, operand_entry}
@@ -44,3 +44,8 @@ unfolding way_of ways
 known_way zero h = refl
 known_way (suc zero) h = refl
 known_way (suc (suc k)) h = absurd (let q : ⊥ = omega arith in q)
+
+-- past the last kind the way is the first's
+pub way_past : (k : ℕ) → 13 < k → way_of k ≡ Known false
+unfolding way_of ways
+way_past k h = get_or-eq_default ways (Known false) h

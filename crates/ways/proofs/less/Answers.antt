@@ -8,6 +8,6 @@ pub returns-then-a-b : goal.returns-then-a-b
 unfolding lesser
 returns-then-a-b c = rw (le-leb _ _ c.if-a-b.true)
 
-pub returns : goal.returns
+pub returns-else-a-b : goal.returns-else-a-b
 unfolding lesser
-returns c = rw (lt-leb _ _ c.if-a-b.false)
+returns-else-a-b c = rw (lt-leb _ _ c.if-a-b.false)

@@ -10,19 +10,19 @@ use Rattle.tlwe.specs.Linear.{negative}
 use Rattle.ways.proofs.negate.Goals as goal
 
 pub loop-i-init : goal.loop-i-init
-loop-i-init c = (omega arith, refl, tab_none _ _)
+loop-i-init c = (refl, tab_none _ _)
 
 pub loop-i-preserved : goal.loop-i-preserved
 loop-i-preserved c =
     let g = c.args in
     let l = c.loop-i in
     let h : l.i < length g.out.now = omega arith in
-    let r = tab_read (λ j. neg (at g.out.now j) % Q) g.out.now l.i h l.invariant.2 in
-    (omega arith, simp length-set l.invariant.1, tab_more (λ j. neg (at g.out.now j) % Q) g.out.now l.i h l.invariant.2 (c.negated.ensures ∙ ap (λ (y : ℕ). neg y % Q) r))
+    let r = tab_read (λ j. neg (at g.out.now j) % Q) g.out.now l.i h l.invariant.1 in
+    (simp length-set l.invariant.0, tab_more (λ j. neg (at g.out.now j) % Q) g.out.now l.i h l.invariant.1 (c.negated.ensures ∙ ap (λ (y : ℕ). neg y % Q) r))
 
 pub returns : goal.returns
 unfolding negative
 returns c =
     let l = c.loop-i in
     let g = c.args in
-    tab_done (λ j. neg (at g.out.now j) % Q) g.out.now l.i (length g.out.now) l.invariant.0 (omega arith) refl l.invariant.2
+    tab_done (λ j. neg (at g.out.now j) % Q) g.out.now l.i (length g.out.now) (omega arith) (omega arith) refl l.invariant.1

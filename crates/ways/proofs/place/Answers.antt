@@ -7,5 +7,5 @@ use Rattle.ways.proofs.place.Goals as goal
 pub returns-then-w-most : goal.returns-then-w-most
 returns-then-w-most c = place_past _ _ _ (omega arith) c.if-w-most.true
 
-pub returns : goal.returns
-returns c = place_is _ _ _ (omega arith) c.if-w-most.false
+pub returns-else-w-most : goal.returns-else-w-most
+returns-else-w-most c = place_is _ _ _ (omega arith) c.if-w-most.false
