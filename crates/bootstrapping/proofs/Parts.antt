@@ -3,15 +3,12 @@
 -- Assumes nothing.
 use mathlib.Core.Path.{◌≡◌, refl, sym, ap, ap₂, ◌∙◌}
 use mathlib.Core.Bool.{Bool, true, false, cond}
-use mathlib.Core.List.{List, [], ◌∷◌, ◌++◌, append-nil}
-use Prim.Native.Nat.{ℕ, zero, suc, ◌+◌, ◌-◌, ◌*◌, ◌%◌, ◌^◌, ◌≤◌, ◌<◌}
+use mathlib.Core.List.{List, [], ◌∷◌, ◌++◌}
+use Prim.Native.Nat.{ℕ, zero, suc, ◌+◌, ◌-◌, ◌*◌, ◌%◌, ◌≤◌, ◌<◌}
 use native.Mathlib.Nat.{mul-le-mul_right, mul-zero, zero-mul, add-zero, mod-eq_of_lt}
 use native.Mathlib.Omega.{arith}
-use borrow.Author.Tests.{lt-ltb, le-ltb}
 use lib.Dec.{ltb}
-use lib.ListN.{length, take, drop, set, length-append, length-drop, drop_of_length-le}
-use lib.Seq.{take_at, drop_at}
-use borrow.Rule.Slice.PartMut.{put_mid}
+use lib.ListN.{length, take, drop, set}
 use Rattle.ring.specs.Word.{Q, at}
 use Rattle.ring.specs.Sums.{tab}
 use Rattle.ring.specs.Poly.{plus, times, scale}
@@ -21,12 +18,13 @@ use Rattle.ring.proofs.Tab.{at-tab, tab_ext, tab_of}
 use Rattle.ring.proofs.Laws.{plus_assoc, plus_comm}
 use Rattle.params.specs.declared.Params.{Params}
 use Rattle.params.specs.Ranges.{InRange}
-use Rattle.params.specs.Sizes.{size, bit_words}
-use Rattle.params.proofs.Ranges.{size_from, l_to, sizes_small}
+use Rattle.params.specs.declared.Sizes.{Sizes}
+use Rattle.params.specs.Sizes.{size, bit_words, sizes_in}
+use Rattle.params.proofs.Ranges.{size_from}
 use Rattle.product.specs.Product.{poly_mul_add_out}
 use Rattle.product.proofs.Uses.{poly_mul_add_done}
 use Rattle.ring.proofs.Places.{length-plus}
-use Rattle.ring.proofs.Parts.{slice_part, slice_length}
+use Rattle.ring.proofs.Parts.{slice_part}
 use Rattle.decomposition.specs.Digit.{digit_weight}
 use Rattle.bootstrapping.specs.Rows.{gadget_row, zero_row, pair_row, key_row, row_draw, torus_row, torus_rows, bit_draws, bit_draw, key_bit}
 use Rattle.bootstrapping.specs.Private.{mask_message, body_message, row_mask, row_body}
@@ -86,27 +84,6 @@ constant N a c = tab_ext N _ _ (λ i l. ap (λ (x : ℕ). (at a i + x) % Q) (one
 swap : (N : ℕ) → 0 < N → (a b c : List ℕ) → plus N (plus N a b) c ≡ plus N (plus N a c) b
 swap N h a b c = plus_assoc N h a b c ∙ ap (plus N a) (plus_comm N h b c) ∙ sym (plus_assoc N h a c b)
 
-module _ (p : Params) (m r : ℕ) where
-  pub mask_low : r < p.l → m * 2 ^ (32 - (r + 1) * p.bgbit) % Q ≡ mask_message p m r % Q
-  unfolding mask_message digit_weight
-  mask_low h = rw (lt-ltb r p.l h)
-
-  pub mask_high : p.l ≤ r → 0 ≡ mask_message p m r % Q
-  unfolding mask_message Q
-  mask_high h = rw (le-ltb r p.l h)
-
-  pub body_low : r < p.l → 0 ≡ body_message p m r % Q
-  unfolding body_message Q
-  body_low h = rw (lt-ltb r p.l h)
-
-  pub body_high : p.l ≤ r → m * 2 ^ (32 - (r - p.l + 1) * p.bgbit) % Q ≡ body_message p m r % Q
-  unfolding body_message digit_weight
-  body_high h = rw (le-ltb r p.l h)
-
--- the shift of digit i, below L, is in range
-pub shift_in : (p : Params) → InRange p → (i : ℕ) → i < p.l → (i < 32) × (p.bgbit ≤ 24) × ((i + 1) * p.bgbit ≤ 32)
-shift_in p r i h = omega (arith, r, l_to p r, mul-le-mul_right p.bgbit h)
-
 -- ---- what the callees leave
 
 module _ (p : Params) (range : InRange p) where
@@ -132,34 +109,19 @@ module _ (p : Params) (range : InRange p) where
       ∙ swap (size p) (size_from p) noise (scale (size p) (body_message p m r) (1 ∷ [])) (times (size p) masks key))
       ∙ sym (row_halved p m r key masks noise)
 
--- ---- the two halves of a row
-
-module _ (n : ℕ) (o e : List ℕ) (is : length e ≡ n) (two : length o ≡ n + n) where
-  -- the second half, the first being written
-  pub back_half : length (take (n + n - n) (drop n (e ++ drop n o))) ≡ n
-  back_half = slice_length (e ++ drop n o) n n (simp (length-append, length-drop) (omega arith))
-
-  -- both written
-  pub both_halves : (e2 : List ℕ) → put_mid n (n + n - n) (e ++ drop n o) e2 ≡ e ++ e2
-  both_halves e2 =
-      let rest : drop n (e ++ drop n o) ≡ drop n o = drop_at e (drop n o) n is in
-      let l : length (drop n o) ≤ n + n - n = rw (length-drop n o) (omega arith) in
-      ap₂ (λ (x y : List ℕ). x ++ (e2 ++ y)) (take_at e (drop n o) n is) (ap (drop (n + n - n)) rest ∙ drop_of_length-le (drop n o) l)
-      ∙ ap (λ (x : List ℕ). e ++ x) (append-nil e2)
-
 -- ---- the parts that the code lends
 
 -- part i of so many, each of w words, ends within them
 pub fits : (i count w v : ℕ) {len : ℕ} → i < count → w ≡ v → len ≡ count * v → i * w + w ≤ len
 fits i count w v h e l = let q = ap (λ (k : ℕ). i * k + k) e in let a = mul-le-mul_right v h in omega arith
 
-module _ (p : Params) (n : ℕ) (e : n ≡ size p) where
-  -- the words of a bit are twice its draws
-  pub twice_draws : (p.l + p.l) * n + (p.l + p.l) * n ≡ bit_words p
-  twice_draws = ap (λ (k : ℕ). (p.l + p.l) * k + (p.l + p.l) * k) e ∙ omega arith
+-- the words and the draws of a bit, as the lengths of checked parameters have them
+pub bit_sizes : {p q : Params} {s : Sizes} → s ≡ sizes_in q → q ≡ p → (s.bit ≡ bit_words p) × (s.bitmasks ≡ bit_draws p)
+bit_sizes e v = (ap (λ (t : Sizes). t.bit) e ∙ ap (λ (t : Params). bit_words t) v, ap (λ (t : Sizes). t.bitmasks) e ∙ ap (λ (t : Params). bit_draws t) v)
 
-  pub draws_small : InRange p → (p.l + p.l) * n ≤ 65536
-  draws_small r = let q = ap (λ (k : ℕ). (p.l + p.l) * k) e in let s = (sizes_small p r).bitmask in omega arith
+-- row r of a bit ends within its rows
+pub row_room : (p : Params) (r n : ℕ) {len : ℕ} → r < p.l + p.l → n ≡ size p → len ≡ bit_words p → r * (n + n) + (n + n) ≤ len
+row_room p r n h e l = fits r (p.l + p.l) (n + n) (size p + size p) h (ap (λ (k : ℕ). k + k) e) l
 
 -- a part of w words
 pub part_is : (l : List ℕ) (i w v : ℕ) → w ≡ v → take (i * w + w - i * w) (drop (i * w) l) ≡ part v (i * v) l

@@ -5,14 +5,14 @@ use mathlib.Core.List.{List, [], ◌∷◌, ◌++◌}
 use Prim.Native.Nat.{ℕ}
 use Rattle.ring.specs.Sums.{sum_to, tab}
 use Rattle.ring.specs.Lists.{joined}
-use Rattle.params.specs.Refusal.{answer}
 use Rattle.kinds.specs.Kinds.{kinds, kind_of}
 use Rattle.circuit.specs.Form.{field_at, answer_of, head_fields, gate_fields, operand_good, output_answer, first}
 use Rattle.report.specs.Decimal.{decimal_to, decimal}
 use Rattle.bristol_export.specs.Steps.{source_of, steps, steps_of, count, step_at}
 use Rattle.bristol_export.specs.Text.{ended, name_end, two_text, one_text, line_text, lines_to, last_wire, text_wire, step_text, steps_text, gate_text, output_text, lines, head_text, exported}
 use Rattle.bristol_export.specs.Export.{export_answer, export_said, export_out}
-use Rattle.bristol_export.proofs.Answers.{said}
+use Rattle.std.specs.Prelude.{Ok, Err}
+use Rattle.params.specs.declared.refusal.Refusal.TheVariants.{Length, Count}
 
 -- three inputs, a mux of them, and the mux as the only output
 abbrev mux : List ℕ
@@ -44,8 +44,8 @@ text =
 abbrev sevens : ℕ → List ℕ
 sevens n = tab n (λ i. 7)
 
--- what is told: the length, or refusal 2 and the length 0; bytes that are no circuit keep their own refusal, however short the slice
-pub told : (export_said constant 36 ≡ said (answer 0) 36) × (export_said constant 38 ≡ said (answer 0) 36) × (export_said constant 35 ≡ said (answer 2) 0) × (export_said [] 0 ≡ said (answer 8) 0)
+-- what is handed back: the length, or refusal 2; bytes that are no circuit keep their own refusal, however short the slice
+pub told : (export_said constant 36 ≡ Ok 36) × (export_said constant 38 ≡ Ok 36) × (export_said constant 35 ≡ Err Length) × (export_said [] 0 ≡ Err (Count 0))
 unfolding tab sum_to joined field_at answer_of head_fields gate_fields operand_good output_answer first kinds kind_of decimal_to decimal source_of steps steps_of count step_at ended name_end two_text one_text line_text lines_to last_wire text_wire step_text steps_text gate_text output_text lines head_text exported export_answer export_said
 told = (refl, refl, refl, refl)
 

@@ -119,12 +119,9 @@ pub(crate) fn put_steps(
     ensures value { result ≡ at + length (steps_text kind a b c n) }
     ensures out_after { out.new ≡ laid out.old at (steps_text kind a b c n) }
 {
-    let lines = count_of(kind);
     let mut to = at;
-    let mut s = 0;
-    while s < lines {
+    for s in 0..count_of(kind) {
         to = put_step(out, to, kind, a, b, c, n, s);
-        s += 1;
     }
     to
 }

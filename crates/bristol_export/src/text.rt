@@ -5,15 +5,15 @@ ghost use Rattle.bristol_export.specs.Text.{ended, two_text, one_text, line_text
 ghost use Rattle.report.specs.Decimal.{decimal};
 
 // One byte.
+#[tactic(auto, using(crate::proofs::Laid::laid_one, crate::proofs::Laid::laid_out))]
 fn put_byte(out: &mut [u8], at: usize, b: u8) -> usize
     requires { at ≤ 300000 }
     ensures value { result ≡ at + 1 }
     ensures out_after { out.new ≡ laid out.old at (b ∷ []) }
 {
-    if out.len() <= at {
-        return at + 1;
+    if at < out.len() {
+        out[at] = b;
     }
-    out[at] = b;
     at + 1
 }
 
@@ -23,12 +23,10 @@ fn put(out: &mut [u8], at: usize, src: &[u8]) -> usize
     ensures value { result ≡ at + length src.now }
     ensures out_after { out.new ≡ laid out.old at src.now }
 {
-    let mut i = 0;
-    while i < src.len() {
-        put_byte(out, at + i, src[i]);
-        i += 1;
+    for (i, b) in src.iter().enumerate() {
+        put_byte(out, at + i, *b);
     }
-    at + i
+    at + src.len()
 }
 
 // A digit where it is shown.
@@ -38,9 +36,10 @@ fn put_digit_if(out: &mut [u8], at: usize, shown: bool, d: usize) -> usize
     ensures out_after { out.new ≡ laid out.old at (digit_if shown d) }
 {
     if shown {
-        return put_byte(out, at, 48 + (d as u8));
+        put_byte(out, at, b'0' + (d as u8))
+    } else {
+        at
     }
-    at
 }
 
 // A number in decimal, of at most four digits.

@@ -18,14 +18,10 @@ fn last_wires(bytes: &[u8], last: &mut [usize]) -> usize
     ensures wired { Wired bytes.now last.new }
 {
     let counts = circuit::counts(bytes);
-    let inputs = counts.inputs;
-    let n = counts.gates;
     let mut lines = 0;
-    let mut g = 0;
-    while g < n {
+    for g in 0..counts.gates {
         lines += count_of(circuit::kind_at(bytes, g));
-        last[g] = inputs + lines - 1;
-        g += 1;
+        last[g] = counts.inputs + lines - 1;
     }
     lines
 }
@@ -38,10 +34,7 @@ fn wire_of(inputs: usize, last: &[usize], v: usize) -> usize
         return v;
     }
     let g = v - inputs;
-    if g < last.len() {
-        return last[g];
-    }
-    0
+    if g < last.len() { last[g] } else { 0 }
 }
 
 // The counts and an empty line.
@@ -84,14 +77,11 @@ fn put_gates(bytes: &[u8], last: &[usize], out: &mut [u8], at: usize) -> usize
     ensures out_after { out.new ≡ laid out.old at (joined (gates bytes.now) (gate_text bytes.now)) }
 {
     let counts = circuit::counts(bytes);
-    let gates = counts.gates;
     let mut n = counts.inputs;
     let mut to = at;
-    let mut g = 0;
-    while g < gates {
+    for g in 0..counts.gates {
         to = put_gate(bytes, last, g, n, out, to);
         n += count_of(circuit::kind_at(bytes, g));
-        g += 1;
     }
     to
 }
@@ -105,14 +95,10 @@ fn put_outputs(bytes: &[u8], last: &[usize], lines: usize, out: &mut [u8], at: u
     ensures out_after { out.new ≡ laid out.old at (joined (outputs bytes.now) (output_text bytes.now)) }
 {
     let counts = circuit::counts(bytes);
-    let inputs = counts.inputs;
-    let outputs = counts.outputs;
     let mut to = at;
-    let mut o = 0;
-    while o < outputs {
-        let w = wire_of(inputs, last, circuit::output_at(bytes, o));
-        to = put_line(out, to, 5, w, 0, inputs + lines + o);
-        o += 1;
+    for o in 0..counts.outputs {
+        let w = wire_of(counts.inputs, last, circuit::output_at(bytes, o));
+        to = put_line(out, to, 5, w, 0, counts.inputs + lines + o);
     }
     to
 }

@@ -11,7 +11,7 @@ use contract.Lifetimes.{Lfts}
 use denote.Triple.Entry.{Args, Res}
 use denote.Triple.Clauses.{Lasts, at_exit}
 use Rattle.ring.proofs.Value.{by_test}
-use Rattle.params.specs.Refusal.{answer, if_done}
+use Rattle.params.specs.Refusal.{answer, outcome, if_done}
 use Rattle.refusals.proofs.Table.{facts}
 use Rattle.drift_report.specs.Report.{empty_report, report_of, wires_most}
 use Rattle.drift_report.specs.Merge.{merged}
@@ -45,16 +45,16 @@ empty_tells κs a x v h = h
 
 -- of calls on words: the answer, and what the slice holds afterwards
 pub empty_into_tells : (κs : Lfts (empty_into_c.ended).signature.lifetimes) (a : Args (empty_into_c.ended).signature κs) (x : Res (empty_into_c.ended).signature κs) (v : Lasts empty_into_c.ended κs a)
-    → empty_into.Reads.Learnt κs a x (at_exit empty_into_c.ended κs a v) → let out = a.0.now in let number = empty_number (length out) in (x ≡ answer number) × (v.0 ≡ if_done number (report_words empty_report) out)
+    → empty_into.Reads.Learnt κs a x (at_exit empty_into_c.ended κs a v) → let out = a.0.now in let number = empty_number (length out) in (x ≡ outcome (answer number)) × (v.0 ≡ if_done number (report_words empty_report) out)
 empty_into_tells κs a x v h = h
 
 pub report_into_tells : (κs : Lfts (report_into_c.ended).signature.lifetimes) (a : Args (report_into_c.ended).signature κs) (x : Res (report_into_c.ended).signature κs) (v : Lasts report_into_c.ended κs a)
-    → report_into.Reads.Learnt κs a x (at_exit report_into_c.ended κs a v) → let ds = a.0.now in let out = a.1.0.now in let number = report_number (length ds) (length out) in (x ≡ answer number) × (v.1.0 ≡ if_done number (report_words (report_of ds)) out)
+    → report_into.Reads.Learnt κs a x (at_exit report_into_c.ended κs a v) → let ds = a.0.now in let out = a.1.0.now in let number = report_number (length ds) (length out) in (x ≡ outcome (answer number)) × (v.1.0 ≡ if_done number (report_words (report_of ds)) out)
 report_into_tells κs a x v h = h
 
 pub merge_into_tells : (κs : Lfts (merge_into_c.ended).signature.lifetimes) (a : Args (merge_into_c.ended).signature κs) (x : Res (merge_into_c.ended).signature κs) (v : Lasts merge_into_c.ended κs a)
     → merge_into.Reads.Learnt κs a x (at_exit merge_into_c.ended κs a v) → let first = a.0.now in let second = a.1.0.now in let out = a.1.1.0.now in let number = merge_number first second (length out) in
-    (x ≡ answer number) × (v.1.1.0 ≡ if_done number (report_words (merged (report_from first) (report_from second))) out)
+    (x ≡ outcome (answer number)) × (v.1.1.0 ≡ if_done number (report_words (merged (report_from first) (report_from second))) out)
 merge_into_tells κs a x v h = h
 
 -- where a call of two lists' reports is not refused they have few enough wires
@@ -65,13 +65,13 @@ few_wires xs ys out e = rw (sym (length-append xs ys)) (facts (report_checks (le
 pub merge_into_merges : (κs : Lfts (merge_into_c.ended).signature.lifetimes) (a : Args (merge_into_c.ended).signature κs) (x : Res (merge_into_c.ended).signature κs) (v : Lasts merge_into_c.ended κs a)
     (xs ys : List ℕ) → a.0.now ≡ report_words (report_of xs) → a.1.0.now ≡ report_words (report_of ys)
     → merge_into.Reads.Learnt κs a x (at_exit merge_into_c.ended κs a v)
-    → let out = a.1.1.0.now in let number = report_number (length (xs ++ ys)) (length out) in (x ≡ answer number) × (v.1.1.0 ≡ if_done number (report_words (report_of (xs ++ ys))) out)
+    → let out = a.1.1.0.now in let number = report_number (length (xs ++ ys)) (length out) in (x ≡ outcome (answer number)) × (v.1.1.0 ≡ if_done number (report_words (report_of (xs ++ ys))) out)
 merge_into_merges κs a x v xs ys e f h =
     let out = a.1.1.0.now in
     let number = report_number (length (xs ++ ys)) (length out) in
     let n : merge_number a.0.now a.1.0.now (length out) ≡ number = ap₂ (λ (s t : List ℕ). merge_number s t (length out)) e f ∙ words_refused xs ys (length out) in
     let w : List ℕ = report_words (merged (report_from a.0.now) (report_from a.1.0.now)) in (
-      h.0 ∙ ap answer n,
+      h.0 ∙ ap (λ (k : ℕ). outcome (answer k)) n,
       h.1 ∙ ap (λ (k : ℕ). if_done k w out) n
           ∙ by_test (eqb number 0) (λ (c : Bool). cond c w out ≡ cond c (report_words (report_of (xs ++ ys))) out)
           (λ t. ap₂ (λ (s u : List ℕ). report_words (merged (report_from s) (report_from u))) e f ∙ words_merged xs ys (few_wires xs ys (length out) (eqb→eq number 0 t)))

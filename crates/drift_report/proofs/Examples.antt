@@ -9,11 +9,12 @@ use Rattle.ring.specs.Word.{Q}
 use Rattle.ring.specs.Centre.{H, centre}
 use Rattle.ring.specs.Sums.{sum_to, tab}
 use Rattle.ring.specs.Poly.{plus}
-use Rattle.params.specs.Refusal.{answer}
+use Rattle.std.specs.Prelude.{Err}
+use Rattle.params.specs.declared.refusal.Refusal.TheVariants.{Wires}
 use Rattle.drift_report.specs.declared.Report.{Report}
 use Rattle.drift_report.specs.Size.{bits_of}
 use Rattle.drift_report.specs.Leader.{ahead, leader_to, lead_of}
-use Rattle.drift_report.specs.Report.{count_to, report_of, empty_report, wires_number, told}
+use Rattle.drift_report.specs.Report.{count_to, report_of, wires_number, told}
 use Rattle.drift_report.specs.Merge.{merged}
 use Rattle.drift_report.specs.Words.{report_words, report_from, empty_number, report_number, merge_number}
 
@@ -72,9 +73,9 @@ pub edge : (wires_number 65535 ≡ 0) × (wires_number 65536 ≡ 13)
 unfolding wires_number
 edge = (refl, refl)
 
--- beside the refusal stands the empty report
-pub refused : told (wires_number 65536) (small 0 1 0 0 1 0 1) ≡ record { answer = answer 13; report = small 0 0 0 0 0 0 0 }
-unfolding told wires_number empty_report tab
+-- a refusal has no report beside it
+pub refused : told (wires_number 65536) (small 0 1 0 0 1 0 1) ≡ Err Wires
+unfolding told wires_number
 refused = refl
 
 -- as words: the counts from size 0 on, the largest drift, its wire, the total

@@ -1,7 +1,6 @@
 pub mod Sizes
 pub mod Counts
 pub mod Leaders
-pub mod Told
 pub mod Moved
 pub mod Merges
 pub mod Reports

@@ -19,10 +19,11 @@ use Rattle.ring.specs.Poly.{plus}
 use Rattle.ring.proofs.Value.{by_test}
 use Rattle.ring.proofs.Tab.{at-tab, tab_of, tab_ext}
 use Rattle.ring.proofs.Laws.{plus_assoc, plus_comm}
-use Rattle.params.specs.Refusal.{check, if_done}
+use Rattle.std.specs.Prelude.{Result, Ok, Err}
+use Rattle.params.specs.Refusal.{check}
+use Rattle.params.specs.declared.refusal.Refusal.{Refusal}
 use Rattle.drift_report.specs.declared.leading.Leader.{Leader}
 use Rattle.drift_report.specs.declared.Report.{Report}
-use Rattle.drift_report.specs.declared.ReportTold.{ReportTold}
 use Rattle.drift_size.specs.Size.{magnitude}
 use Rattle.drift_report.specs.Leader.{ahead, leader_to, lead_of}
 use Rattle.drift_report.specs.Report.{sizes, count_to, reported, report_of, empty_report, wires_most, wires_number, told}
@@ -89,10 +90,10 @@ told_alike wires x y f = by_test (leb wires wires_most)
     (λ t. refl)
 
 -- What `merge` tells of two records, and `report_of` of a list: that their contracts say so is in Contracts.antt.
-abbrev pub merge_told : Report → Report → ReportTold
+abbrev pub merge_told : Report → Report → Result Report Refusal
 merge_told a b = told (wires_number (a.total + b.total)) (merged a b)
 
-abbrev pub report_told : List ℕ → ReportTold
+abbrev pub report_told : List ℕ → Result Report Refusal
 report_told ds = told (wires_number (length ds)) (report_of ds)
 
 -- However long the lists are.
@@ -112,11 +113,12 @@ merge_assoc a b c =
     λ i. reported (counts i) (leads i) (add_assoc a.total b.total c.total i)
 
 -- A call that goes on with the report of another: a refusal of that stands.
-abbrev pub after : ReportTold → (Report → ReportTold) → ReportTold
-after first next = if_done first.answer.number (next first.report) first
+abbrev pub after : Result Report Refusal → (Report → Result Report Refusal) → Result Report Refusal
+after (Ok r) next = next r
+after (Err e) next = Err e
 
 -- where a part is refused, so is the whole
-after-told : (part whole : ℕ) (x y : Report) (next : Report → ReportTold) → part ≤ whole → next x ≡ told (wires_number whole) y
+after-told : (part whole : ℕ) (x y : Report) (next : Report → Result Report Refusal) → part ≤ whole → next x ≡ told (wires_number whole) y
     → after (told (wires_number part) x) next ≡ told (wires_number whole) y
 unfolding told wires_number
 after-told part whole x y next h e = by_test (leb part wires_most)

@@ -1,13 +1,13 @@
 -- The report of a list of drifts (02, 2026-05): what each of its fields is, and when it is refused.
-use Rattle.std.specs.Prelude.{List, [], ◌∷◌, ℕ, eqb, length}
+use Rattle.std.specs.Prelude.{Result, List, [], ◌∷◌, ℕ, eqb, length}
 use Rattle.ring.specs.Word.{at}
 use Rattle.ring.specs.Bit.{bit_number}
 use Rattle.ring.specs.Sums.{sum_to, tab}
-use Rattle.params.specs.Refusal.{answer, if_done}
+use Rattle.params.specs.Refusal.{answer, given}
+use Rattle.params.specs.declared.refusal.Refusal.{Refusal}
 use Rattle.refusals.specs.Table.{first_of, at_most}
 use Rattle.drift_report.specs.declared.leading.Leader.{Leader}
 use Rattle.drift_report.specs.declared.Report.{Report}
-use Rattle.drift_report.specs.declared.ReportTold.{ReportTold}
 use Rattle.drift_report.specs.Size.{bits_of}
 use Rattle.drift_report.specs.Leader.{leader_to}
 
@@ -39,6 +39,6 @@ wires_most = 65535
 unfoldable pub wires_number : ℕ → ℕ
 wires_number wires = first_of (at_most wires wires_most 13 ∷ [])
 
--- What a call tells: the report, or beside a refusal the empty one.
-unfoldable pub told : ℕ → Report → ReportTold
-told number r = record { answer = answer number; report = if_done number r empty_report }
+-- What a call tells: the report, or its refusal.
+unfoldable pub told : ℕ → Report → Result Report Refusal
+told number r = given (answer number) r

@@ -1,101 +1,72 @@
 // Reports as words, for callers that have no records: the counts, the largest drift, its wire, the total.
-ghost use Rattle.std.specs.Prelude.{◌≡◌, [], ◌∷◌, ◌++◌, length, take};
-ghost use Rattle.params.specs.Refusal.{answer, if_done};
+ghost use Rattle.std.specs.Prelude.{◌≡◌, length};
+ghost use Rattle.params.specs.Refusal.{answer, outcome, if_done};
 ghost use Rattle.drift_report.specs.Report.{empty_report, report_of};
 ghost use Rattle.drift_report.specs.Merge.{merged};
 ghost use Rattle.drift_report.specs.Words.{report_words, report_from, empty_number, report_number, merge_number};
 
-use crate::{Report, ReportTold};
-use params::Answer;
+use crate::Report;
+use params::Refusal;
 use utils::Torus;
 
-// The last three words of a report.
-fn put_last(out: &mut [u32], largest: u32, wire: u32, total: u32)
-    requires { length out.old ≡ 36 }
-    ensures { out.new ≡ take 33 out.old ++ (largest ∷ wire ∷ total ∷ []) }
-{
-    out[33] = largest;
-    out[34] = wire;
-    out[35] = total;
-}
-
+#[tactic(auto, unfolding(crate::specs::Words::report_words))]
 // A report's words.
 fn put(report: Report, out: &mut [u32])
     requires { length out.old ≡ 36 }
     ensures { out.new ≡ report_words report }
 {
-    let counts = report.counts;
-    let largest = report.largest;
-    words::copy(&counts, out);
-    put_last(out, largest.0, report.wire, report.total);
+    let last = [report.largest.0, report.wire, report.total];
+    let (counts, rest) = out.split_at_mut(33);
+    counts.copy_from_slice(&report.counts);
+    rest.copy_from_slice(&last);
 }
 
+#[tactic(auto, unfolding(crate::specs::Words::report_from))]
 // The record of a report's words.
 fn from_words(lent: &[u32]) -> Report
     requires { length lent.now ≡ 36 }
     ensures { result ≡ report_from lent.now }
 {
-    let mut counts = [0u32; 33];
-    words::copy(lent, &mut counts);
-    let largest = Torus(lent[33]);
-    let wire = lent[34];
-    let total = lent[35];
+    let mut counts = [0; 33];
+    counts.copy_from_slice(&lent[..33]);
     Report {
         counts,
-        largest,
-        wire,
-        total,
+        largest: Torus(lent[33]),
+        wire: lent[34],
+        total: lent[35],
     }
 }
 
-// The empty report into a slice of 36 words. Refusals: 2.
-pub fn empty_into(out: &mut [u32]) -> Answer
-    ensures said { result ≡ answer (empty_number (length out.old)) }
+/// The empty report into a slice of 36 words. Refusals: 2.
+pub fn empty_into(out: &mut [u32]) -> Result<(), Refusal>
+    ensures said { result ≡ outcome (answer (empty_number (length out.old))) }
     ensures written { out.new ≡ if_done (empty_number (length out.old)) (report_words empty_report) out.old }
 {
-    let number = refusals::is(0, out.len(), 36, 2);
-    if number == 0 {
-        put(crate::empty(), out);
-    }
-    Answer { number, place: 0 }
+    Refusal::Length.unless(out.len() == 36)?;
+    put(crate::empty(), out);
+    Ok(())
 }
 
-// What a call tells: its answer, and its report's words where it did its work.
-fn put_told(told: ReportTold, out: &mut [u32]) -> Answer
-    requires { length out.old ≡ 36 }
-    ensures said { result ≡ told.answer }
-    ensures written { out.new ≡ if_done told.answer.number (report_words told.report) out.old }
-{
-    let answer = told.answer;
-    let report = told.report;
-    if answer.number == 0 {
-        put(report, out);
-    }
-    answer
-}
-
-// The report of these drifts into a slice of 36 words. Refusals: 2, 13.
-pub fn report_into(drifts: &[u32], out: &mut [u32]) -> Answer
-    ensures said { result ≡ answer (report_number (length drifts.now) (length out.old)) }
+#[tactic(auto, unfolding(crate::specs::Report::told, crate::specs::Report::wires_number))]
+/// The report of these drifts into a slice of 36 words. Refusals: 2, 13.
+pub fn report_into(drifts: &[u32], out: &mut [u32]) -> Result<(), Refusal>
+    ensures said { result ≡ outcome (answer (report_number (length drifts.now) (length out.old))) }
     ensures written { out.new ≡ if_done (report_number (length drifts.now) (length out.old)) (report_words (report_of drifts.now)) out.old }
 {
-    let number = refusals::is(0, out.len(), 36, 2);
-    if number != 0 {
-        return Answer { number, place: 0 };
-    }
-    put_told(crate::report_of(drifts), out)
+    Refusal::Length.unless(out.len() == 36)?;
+    put(crate::report_of(drifts)?, out);
+    Ok(())
 }
 
-// The merge of two reports, lent as 36 words each, into a slice of 36 words. Refusals: 2, 13.
-pub fn merge_into(first: &[u32], second: &[u32], out: &mut [u32]) -> Answer
-    ensures said { result ≡ answer (merge_number first.now second.now (length out.old)) }
+#[tactic(auto, unfolding(crate::specs::Report::told, crate::specs::Report::wires_number, crate::specs::Words::report_from))]
+/// The merge of two reports, lent as 36 words each, into a slice of 36 words. Refusals: 2, 13.
+pub fn merge_into(first: &[u32], second: &[u32], out: &mut [u32]) -> Result<(), Refusal>
+    ensures said { result ≡ outcome (answer (merge_number first.now second.now (length out.old))) }
     ensures written { out.new ≡ if_done (merge_number first.now second.now (length out.old)) (report_words (merged (report_from first.now) (report_from second.now))) out.old }
 {
-    let number = refusals::is(0, first.len(), 36, 2);
-    let number = refusals::is(number, second.len(), 36, 2);
-    let number = refusals::is(number, out.len(), 36, 2);
-    if number != 0 {
-        return Answer { number, place: 0 };
-    }
-    put_told(crate::merge(from_words(first), from_words(second)), out)
+    Refusal::Length.unless(first.len() == 36)?;
+    Refusal::Length.unless(second.len() == 36)?;
+    Refusal::Length.unless(out.len() == 36)?;
+    put(crate::merge(from_words(first), from_words(second))?, out);
+    Ok(())
 }

@@ -11,25 +11,28 @@ pub(crate) struct Leader {
     pub wire: u32,
 }
 
+#[tactic(auto, unfolding(crate::specs::Leader::ahead))]
 // Of two the one whose drift is larger in absolute value, the first at a tie.
 pub(crate) fn ahead(a: Leader, b: Leader) -> Leader
     ensures { result ≡ ahead a b }
 {
     if absolute(a.drift) < absolute(b.drift) {
-        return b;
+        b
+    } else {
+        a
     }
-    a
 }
 
+#[tactic(auto, unfolding(crate::specs::Leader::lead_of))]
 // Of two that lead among so many wires each: the first where the second has no wires, the second where the first has none, else the one that is ahead.
 pub(crate) fn lead_of(a: Leader, wires: u32, b: Leader, more: u32) -> Leader
     ensures { result ≡ lead_of a wires b more }
 {
     if more == 0 {
-        return a;
+        a
+    } else if wires == 0 {
+        b
+    } else {
+        ahead(a, b)
     }
-    if wires == 0 {
-        return b;
-    }
-    ahead(a, b)
 }

@@ -5,7 +5,7 @@ ghost use Rattle.std.specs.Prelude.{◌≡◌, ◌+◌, length};
 ghost use Rattle.drift_report.specs.Report.{empty_report, told, wires_number, report_of};
 ghost use Rattle.drift_report.specs.Merge.{merged};
 
-use params::Answer;
+use params::Refusal;
 use utils::Torus;
 
 pub mod as_words;
@@ -13,7 +13,7 @@ mod leading;
 mod merging;
 mod one_pass;
 
-// A report. Its counts go by the bits of the drift's absolute value, 0 to 32; the largest drift is a word that is read as signed; its wire is its place, from 0.
+/// A report. Its counts go by the bits of the drift's absolute value, 0 to 32; the largest drift is a word that is read as signed; its wire is its place, from 0.
 #[derive(Clone, Copy)]
 pub struct Report {
     pub counts: [u32; 33],
@@ -22,63 +22,34 @@ pub struct Report {
     pub total: u32,
 }
 
-// What a call tells: the report, the empty one beside a refusal.
-#[derive(Clone, Copy)]
-pub struct ReportTold {
-    pub answer: Answer,
-    pub report: Report,
-}
-
-// The report of no wire.
+#[tactic(auto, unfolding(crate::specs::Report::empty_report, ring::specs::Sums::tab))]
+/// The report of no wire.
 pub fn empty() -> Report
     ensures { result ≡ empty_report }
 {
     Report {
-        counts: [0u32; 33],
+        counts: [0; 33],
         largest: Torus(0),
         wire: 0,
         total: 0,
     }
 }
 
-// A refusal, with the empty report beside it.
-fn refused(number: u32) -> ReportTold
-    ensures { result ≡ record { answer = record { number = number; place = 0 }; report = empty_report } }
-{
-    let report = empty();
-    ReportTold {
-        answer: Answer { number, place: 0 },
-        report,
-    }
-}
-
-// The report of these drifts, as a drift run leaves them. Refusals: 13.
-pub fn report_of(drifts: &[u32]) -> ReportTold
+#[tactic(auto, unfolding(crate::specs::Report::told, crate::specs::Report::wires_number))]
+/// The report of these drifts, as a drift run leaves them. Refusals: 13.
+pub fn report_of(drifts: &[u32]) -> Result<Report, Refusal>
     ensures { result ≡ told (wires_number (length drifts.now)) (report_of drifts.now) }
 {
-    let number = refusals::at_most(0, drifts.len(), 65535, 13);
-    if number != 0 {
-        return refused(number);
-    }
-    let report = one_pass::counted(drifts);
-    ReportTold {
-        answer: Answer { number, place: 0 },
-        report,
-    }
+    Refusal::Wires.unless(drifts.len() <= 65535)?;
+    Ok(one_pass::counted(drifts))
 }
 
-// The report of the first's wires followed by the second's, of any two records. Refusals: 13.
-pub fn merge(first: Report, second: Report) -> ReportTold
+#[tactic(auto, unfolding(crate::specs::Report::told, crate::specs::Report::wires_number))]
+/// The report of the first's wires followed by the second's, of any two records. Refusals: 13.
+pub fn merge(first: Report, second: Report) -> Result<Report, Refusal>
     ensures { result ≡ told (wires_number (first.total + second.total)) (merged first second) }
 {
-    let wires = (first.total as usize) + (second.total as usize);
-    let number = refusals::at_most(0, wires, 65535, 13);
-    if number != 0 {
-        return refused(number);
-    }
-    let report = merging::merged(first, second);
-    ReportTold {
-        answer: Answer { number, place: 0 },
-        report,
-    }
+    let wires = u64::from(first.total) + u64::from(second.total);
+    Refusal::Wires.unless(wires <= 65535)?;
+    Ok(merging::merged(first, second))
 }

@@ -12,30 +12,24 @@ pub(crate) fn merged(first: Report, second: Report) -> Report
     ensures { result ≡ merged first second }
 {
     let mut counts = first.counts;
-    let added = second.counts;
-    words::add(&added, &mut counts);
-    let a = first.largest;
-    let b = second.largest;
-    let wires = first.total;
-    let more = second.total;
-    let moved = ring::add(wires, second.wire);
+    words::add(&second.counts, &mut counts);
+    let moved = ring::add(first.total, second.wire);
     let lead = lead_of(
         Leader {
-            drift: a.0,
+            drift: first.largest.0,
             wire: first.wire,
         },
-        wires,
+        first.total,
         Leader {
-            drift: b.0,
+            drift: second.largest.0,
             wire: moved,
         },
-        more,
+        second.total,
     );
-    let total = wires + more;
     Report {
         counts,
         largest: Torus(lead.drift),
         wire: lead.wire,
-        total,
+        total: first.total + second.total,
     }
 }

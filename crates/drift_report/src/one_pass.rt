@@ -7,11 +7,12 @@ use crate::Report;
 use crate::leading::{Leader, ahead};
 use utils::Torus;
 
+#[tactic(auto, unfolding(crate::specs::Size::bits_of))]
 // The bits of a drift's absolute value.
 fn bits_of(drift: u32) -> u32
     ensures { result ≡ bits_of drift }
 {
-    32 - u32::leading_zeros(drift_size::absolute(drift))
+    32 - drift_size::absolute(drift).leading_zeros()
 }
 
 // The report.
@@ -19,23 +20,24 @@ pub(crate) fn counted(drifts: &[u32]) -> Report
     requires { length drifts.now ≤ 65535 }
     ensures { result ≡ report_of drifts.now }
 {
-    let n = drifts.len();
     let mut counts = [0u32; 33];
     let mut leader = Leader { drift: 0, wire: 0 };
-    let mut i = 0;
-    while i < n {
-        let drift = drifts[i];
-        let bits = bits_of(drift) as usize;
-        counts[bits] = counts[bits] + 1;
+    for (i, drift) in drifts.iter().enumerate() {
+        let bits = bits_of(*drift) as usize;
+        counts[bits] += 1;
         let wire = i as u32;
-        leader = ahead(leader, Leader { drift, wire });
-        i += 1;
+        leader = ahead(
+            leader,
+            Leader {
+                drift: *drift,
+                wire,
+            },
+        );
     }
-    let total = n as u32;
     Report {
         counts,
         largest: Torus(leader.drift),
         wire: leader.wire,
-        total,
+        total: drifts.len() as u32,
     }
 }

@@ -2,8 +2,9 @@
 -- Assumes nothing.
 use mathlib.Core.Path.{◌≡◌, ap, ap₂, ◌∙◌}
 use mathlib.Core.List.{List, [], ◌∷◌}
-use Prim.Native.Nat.{ℕ, zero, suc, ◌+◌}
-use lib.ListN.{length, length-append}
+use Prim.Native.Nat.{ℕ, zero, suc, ◌+◌, ◌≤◌}
+use native.Mathlib.Omega.{arith}
+use lib.ListN.{length, take, replicate, length-append}
 use Rattle.ring.specs.Word.{at}
 use Rattle.ring.specs.Sums.{tab}
 use Rattle.ring.specs.Poly.{plus}
@@ -12,8 +13,9 @@ use Rattle.ring.specs.Phase.{extract}
 use Rattle.ring.specs.Pair.{Pair}
 use Rattle.ring.proofs.Tab.{length-tab}
 use Rattle.params.specs.declared.Params.{Params}
-use Rattle.params.specs.Ranges.{params_number}
-use Rattle.params.specs.Sizes.{size, bootstrapping_words}
+use Rattle.params.specs.Ranges.{params_number, InRange}
+use Rattle.params.specs.declared.Sizes.{Sizes}
+use Rattle.params.specs.Sizes.{size, bootstrapping_words, sizes_in}
 use Rattle.params.proofs.Answers.{when_done}
 use Rattle.params.proofs.Ranges.{in_range, size_from}
 use Rattle.trlwe.specs.Extract.{extract_out}
@@ -22,6 +24,8 @@ use Rattle.trgsw.specs.External.{cmux_of}
 use Rattle.blind_rotation.specs.Blind.{turned, blind_step, steps_to, start_of, blind_rotated}
 use Rattle.blind_rotation.specs.Refusals.{blind_out}
 use Rattle.blind_rotation.proofs.Checks.{blind_done}
+use Rattle.blind_rotation.proofs.Steps.{lent}
+use Rattle.words.proofs.Scratch.{scratch}
 use Rattle.gate_sums.specs.declared.Kind.{Kind}
 use Rattle.gate_sums.specs.Sum.{summed}
 use Rattle.gate_sums.proofs.Sums.{summed-length}
@@ -77,3 +81,15 @@ module _ (p : Params) (e : params_number p ≡ 0) (bsk : List ℕ) (lk : length 
       let o : Pair = record { a = oa; b = ob } in
       let t = ap (λ (x : List ℕ). blind_out p x bsk o) es ∙ turned_to s o (summed-length p kind a b) la lb in
       extracted_to p e bsk s oo (test_pair p) lo (ea ∙ ap (λ (x : Pair). x.a) t) (eb ∙ ap (λ (x : Pair). x.b) t) eo
+
+-- ---- scratch that a routine makes: its first words are lent
+
+module _ (p : Params) (s : Sizes) (inv : InRange p × (s ≡ sizes_in p)) where
+  pub sum_room : s.level0 ≤ 1101
+  sum_room = rw inv.1 (let r = inv.0 in omega (arith, r))
+
+  pub sum_lent : length {A = ℕ} (take s.level0 (replicate 1101 0)) ≡ p.n + 1
+  sum_lent = scratch 1101 s.level0 sum_room ∙ ap (λ (s : Sizes). s.level0) inv.1
+
+  pub all_lent : (length {A = ℕ} (take s.level0 (replicate 1101 0)) ≡ p.n + 1) × (length {A = ℕ} (take s.size (replicate 1024 0)) ≡ size p) × (length {A = ℕ} (take s.size (replicate 1024 0)) ≡ size p)
+  all_lent = let l = lent p s inv in (sum_lent, l, l)

@@ -12,21 +12,36 @@ use Rattle.params.specs.Ranges.{params_number}
 use Rattle.params.specs.Refusal.{if_done}
 use Rattle.params.specs.Sizes.{size, switching_words, bootstrapping_words}
 use Rattle.params.proofs.Answers.{when_done}
-use Rattle.trlwe.specs.Extract.{extract_out}
+use Rattle.params.proofs.Ranges.{in_range, size_from}
+use Rattle.trlwe.specs.Extract.{extract_number, extract_out}
+use Rattle.trlwe.proofs.Checks.{extract_passes}
 use Rattle.switching.specs.Switched.{switch_number, switched}
-use Rattle.switching.proofs.Checks.{switched-length}
+use Rattle.switching.proofs.Checks.{switch_done, switched-length}
 use Rattle.blind_rotation.specs.Blind.{blind_rotated}
-use Rattle.blind_rotation.specs.Refusals.{vector_out}
+use Rattle.blind_rotation.specs.Refusals.{vector_number, vector_out}
 use Rattle.blind_rotation.proofs.Checks.{vector_done}
 use Rattle.blind_rotation.proofs.Steps.{pair}
 use Rattle.samples.specs.Sample.{sample_from}
 use Rattle.samples.proofs.Chain.{from_length, extracted_to}
 use Rattle.gates.proofs.Chain.{switched_to}
+use Rattle.tables.specs.Private.{LookupGood}
 use Rattle.tables.specs.Table.{table_word, table_pair, looked_up}
 
 -- the code's vector: its length is the size, its table's the modulus
 pub vector_made : (p : Params) {m n l : ℕ} (f : List ℕ) {b : List ℕ} → n ≡ size p → l ≡ m → b ≡ tab n (table_word n l f) → b ≡ (table_pair p m f).b
 vector_made p f en el e = e ∙ ap₂ (λ (n l : ℕ). tab n (table_word n l f)) en el
+
+-- the lengths of a lookup that is not refused are right for each call in it
+module _ (p : Params) {m lf lc lk ls lo : ℕ} (k : LookupGood p m lf lc lk ls lo) where
+  pub lookup_turned : {lva lvb la lb : ℕ} → lva ≡ size p → lvb ≡ size p → la ≡ size p → lb ≡ size p → vector_number p lc lva lvb ls la lb ≡ 0
+  lookup_turned v w a b =
+      vector_done p _ _ _ _ _ _ (record { vector_a = v; vector_b = w; rotation = record { range = k.table.good; source = k.source; key = k.bootstrapping; first = a; second = b } })
+
+  pub lookup_extracted : {la lb lr : ℕ} → la ≡ size p → lb ≡ size p → lr ≡ size p + 1 → extract_number p la lb 0 lr ≡ 0
+  lookup_extracted a b r = extract_passes p _ _ 0 _ (in_range p k.table.good) a b r (size_from p)
+
+  pub lookup_switched : {lr : ℕ} → lr ≡ size p + 1 → switch_number p lr lk lo ≡ 0
+  lookup_switched r = switch_done p _ lk lo k.table.good r k.switching k.result
 
 module _ (p : Params) (e : params_number p ≡ 0) (m : ℕ) (f c bsk : List ℕ) (lc : length c ≡ p.n + 1) (ls : length bsk ≡ bootstrapping_words p) where
   -- the vector, its rotation, the extraction; the scratch held oa, ob

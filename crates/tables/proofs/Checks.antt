@@ -1,10 +1,18 @@
 -- The refusals taken apart and put together.
 -- Assumes nothing.
-use mathlib.Core.Path.{◌≡◌, refl}
-use Prim.Native.Nat.{ℕ}
+use mathlib.Core.Path.{◌≡◌, refl, ap, ap₂, ◌∙◌}
+use mathlib.Core.Bool.{true}
+use Prim.Native.Nat.{ℕ, ◌≤◌}
+use native.Mathlib.Omega.{arith}
+use lib.ListN.{length, take, replicate}
 use Rattle.params.specs.declared.Params.{Params}
-use Rattle.params.specs.Sizes.{size}
+use Rattle.params.specs.declared.Sizes.{Sizes}
+use Rattle.params.specs.Ranges.{InRange}
+use Rattle.params.specs.Sizes.{size, sizes_in}
+use Rattle.params.proofs.Ranges.{in_range, size_to as most}
 use Rattle.refusals.proofs.Table.{good, done}
+use Rattle.words.proofs.Scratch.{scratch}
+use Rattle.tables.specs.Table.{is_table}
 use Rattle.tables.specs.Refusals.{vector_checks, table_number, lookup_checks, lookup_number}
 use Rattle.tables.specs.Private.{Fitting, LookupGood}
 
@@ -40,3 +48,17 @@ module _ (p : Params) (m lf lc lk ls lo : ℕ) where
   lookup_done g =
       let t = g.table in
       done p (lookup_checks p m lf lc lk ls lo) (t.good, (t.words, (g.source, (g.switching, (g.bootstrapping, (g.result, (t.fits, tt)))))))
+
+-- ---- scratch
+
+-- the words of a polynomial fit the scratch, and the part that is lent has them
+module _ {q : Params} {s : Sizes} (i : InRange q × (s ≡ sizes_in q)) where
+  pub size_to : s.size ≤ 1024
+  size_to = let e = ap (λ (s : Sizes). s.size) i.1 in omega (arith, e, most q i.0)
+
+  pub size_lent : {p : Params} → q ≡ p → length {A = ℕ} (take s.size (replicate 1024 0)) ≡ size p
+  size_lent e = scratch 1024 _ size_to ∙ ap (λ (s : Sizes). s.size) i.1 ∙ ap size e
+
+-- what `put_vector` asks, of slices that the checks passed
+pub fitting_words : (p : Params) (m lf lb : ℕ) → Fitting p m lf → lb ≡ size p → (is_table lb lf ≡ true) × (lb ≤ 1024)
+fitting_words p m lf lb t e = (ap₂ is_table e t.words ∙ t.fits, omega (arith, e, most p (in_range p t.good)))

@@ -2,7 +2,7 @@
 -- The front law: a place that lies, in steps of a turn, within half a message's step of message q's word takes q's entry where it is in the first half of the turn, and the negative of the
 -- negated first entry where it is just before the turn's end. So what a rotation brings to the front is f(q), whichever way the drift went.
 -- Assumes nothing.
-use mathlib.Core.Path.{◌≡◌, refl, ap}
+use mathlib.Core.Path.{◌≡◌, refl, sym, ap, ◌∙◌}
 use mathlib.Core.Bool.{Bool, true, false, cond}
 use mathlib.Core.Logic.{◌⊎◌, ⊎_elim}
 use mathlib.Core.List.{List}
@@ -14,7 +14,8 @@ use borrow.Author.Tests.{eq-eqb, ne_eqb, eqb-true, lt-ltb, le-ltb}
 use lib.Dec.{eqb, ltb}
 use Rattle.ring.specs.Word.{Q, at, neg}
 use Rattle.ring.specs.Centre.{H}
-use Rattle.params.specs.Refusal.{check}
+use Rattle.std.specs.Result.{is_ok}
+use Rattle.params.specs.Refusal.{check, answer, Outcome, outcome}
 use Rattle.tlwe.specs.Plain.{is_modulus, modulus_number}
 use Rattle.tlwe.proofs.Messages.{modulus_bounds}
 use Rattle.tables.specs.Table.{is_table, nearest_entry, table_word}
@@ -41,6 +42,22 @@ taken_modulus N m e = go (is_modulus m) e
     go : (b : Bool) → check b 5 0 ≡ 0 → eqb (N % (2 * m)) 0 ≡ cond b (eqb (N % (2 * m)) 0) false
     go true k = refl
     go false k = absurd (let q : ⊥ = omega arith in q)
+
+-- what the call of `modulus_number` tells of it
+module _ (m : ℕ) {o : Outcome} (e : o ≡ outcome (answer (modulus_number m))) where
+  pub modulus_ok : is_ok o ≡ true → modulus_number m ≡ 0
+  modulus_ok t = go (is_modulus m) (ap is_ok (sym e) ∙ t)
+    where
+      go : (b : Bool) → is_ok (outcome (answer (check b 5 0))) ≡ true → check b 5 0 ≡ 0
+      go true k = refl
+      go false k = absurd cc
+
+  pub modulus_err : is_ok o ≡ false → modulus_number m ≡ 0 → ⊥
+  modulus_err t = go (is_modulus m) (ap is_ok (sym e) ∙ t)
+    where
+      go : (b : Bool) → is_ok (outcome (answer (check b 5 0))) ≡ false → check b 5 0 ≡ 0 → ⊥
+      go true k z = cc
+      go false k z = omega arith
 
 -- it is a message modulus
 pub table_modulus : (N m : ℕ) → is_table N m ≡ true → modulus_number m ≡ 0

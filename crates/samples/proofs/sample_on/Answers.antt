@@ -1,6 +1,8 @@
 -- `samples::sample_on` meets its contract: the sum, its rotation and the extraction, one after the other.
 -- Assumes nothing.
-use mathlib.Core.Path.{◌∙◌}
+use Rattle.std.proofs.Common.{◌∙◌}
+use Rattle.params.specs.Ranges.{InRange}
+use Rattle.params.proofs.Ranges.{not_refused}
 use Rattle.gate_sums.proofs.Uses.{sum_written}
 use Rattle.samples.proofs.Chain.{sample_made}
 use Rattle.samples.proofs.sample_on.Goals as goal
@@ -8,7 +10,9 @@ use Rattle.samples.proofs.sample_on.Goals as goal
 pub returns : goal.returns
 returns c =
     let g = c.args in
-    let k = c.requires.sample_good in
-    sample_made g.p k.good g.bsk.now k.bootstrapping g.kind g.a.now g.b.now g.ra.now g.rb.now g.out.now c.requires.sum_len.1 c.requires.sum_len.2 k.result
-    (c.sum.ensures.written ∙ sum_written g.p k.good g.kind g.a.now g.b.now g.sum.now k.first k.second c.requires.sum_len.0)
-    c.blind_rotate.ensures.first c.blind_rotate.ensures.second c.sample_extract_index.ensures.written
+    let r = c.requires in
+    let i : InRange g.p = rw (← c.p.view_is) c.p.invariant.0 in
+    let z = not_refused g.p i in
+    sample_made g.p z g.bsk.now r.rows g.kind g.a.now g.b.now g.ra.now g.rb.now g.out.now r.scratch.1 r.scratch.2 r.into
+    ((rw c.p.view_is at c.sum.ensures.written) ∙ sum_written g.p z g.kind g.a.now g.b.now g.sum.now r.first r.second r.scratch.0)
+    (rw c.p.view_is at c.blind_rotate.ensures.first) (rw c.p.view_is at c.blind_rotate.ensures.second) (rw c.p.view_is at c.sample_extract_index.ensures.written)

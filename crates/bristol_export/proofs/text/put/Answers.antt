@@ -5,9 +5,9 @@ use Rattle.bristol_export.proofs.Laid.{bytes_none, bytes_more}
 use Rattle.bristol_export.proofs.text.put.Goals as goal
 
 pub loop-i-init : goal.loop-i-init
-loop-i-init c = let a = c.args in (omega arith, bytes_none a.out.now a.at a.src.now)
+loop-i-init c = let a = c.args in bytes_none a.out.now a.at a.src.now
 
 pub loop-i-preserved : goal.loop-i-preserved
 loop-i-preserved c =
     let a = c.args in
-    (omega arith, bytes_more a.out.now a.at a.src.now c.loop-i.i (omega arith) c.loop-i.invariant.1 c.put_byte.ensures.out_after)
+    bytes_more a.out.now a.at a.src.now c.loop-i.i (omega arith) c.loop-i.invariant c.put_byte.ensures.out_after

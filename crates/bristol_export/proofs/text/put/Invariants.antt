@@ -1,10 +1,7 @@
-use Prim.Native.Nat.{◌+◌, ◌≤◌, ◌-◌}
-use lib.ListN.{length, take}
+use Prim.Native.Nat.{◌+◌}
+use lib.ListN.{take}
 use Rattle.bristol_export.proofs.Laid.{Put}
 use Rattle.bristol_export.proofs.text.put.Given as goal
 
 abbrev pub invariant-loop-i : goal.invariant-loop-i
-invariant-loop-i l = (l.i ≤ length l.src) × Put l.initial.out l.at (take l.i l.src) l.out (l.at + l.i)
-
-abbrev pub decreases-loop-i : goal.decreases-loop-i
-decreases-loop-i l = length l.src - l.i
+invariant-loop-i l = Put l.initial.out l.at (take l.i l.src) l.out (l.at + l.i)

@@ -7,8 +7,8 @@ use Rattle.bristol_export.proofs.Laid.{laid_none}
 use Rattle.bristol_export.proofs.Digits.{digit_none}
 use Rattle.bristol_export.proofs.text.put_digit_if.Goals as goal
 
-pub returns-clause-out_after : goal.returns-clause-out_after
-returns-clause-out_after c =
+pub returns-else-shown-clause-out_after : goal.returns-else-shown-clause-out_after
+returns-else-shown-clause-out_after c =
     let a = c.args in
     let e = digit_none a.shown a.d c.if-shown.false in
     let l = ap length e in

@@ -1,9 +1,8 @@
 -- `bristol_export::whole::last_wires` meets its contract. The loop's invariant: the lines of the gates passed are counted, and each of them has its last wire in the table.
 -- Assumes nothing.
-use mathlib.Core.Path.{◌≡◌, refl, ap, ◌∙◌}
+use mathlib.Core.Path.{◌≡◌, ap, ◌∙◌}
 use Prim.Native.Nat.{◌+◌, ◌≤◌, ◌-◌}
 use native.Mathlib.Omega.{arith}
-use lib.ListN.{length-set}
 use Rattle.circuit.specs.Form.{gates, kind_at}
 use Rattle.report.proofs.Pieces.{counts_inputs, counts_gates}
 use Rattle.bristol_export.specs.Steps.{count}
@@ -12,7 +11,7 @@ use Rattle.bristol_export.proofs.Wires.{lines_none, lines_more, lines_to_lem, la
 use Rattle.bristol_export.proofs.whole.last_wires.Goals as goal
 
 pub loop-g-init : goal.loop-g-init
-loop-g-init c = (omega arith, lines_none c.args.bytes.now, refl, λ k l. absurd (let q : ⊥ = omega arith in q))
+loop-g-init c = (lines_none c.args.bytes.now, λ k l. absurd (let q : ⊥ = omega arith in q))
 
 pub overflow_add-lines : goal.overflow_add-lines
 overflow_add-lines c =
@@ -24,7 +23,7 @@ overflow_add-lines c =
     let i = counts_inputs b s in
     let hg = v.head.gates_to in
     let hi = v.head.inputs_to in
-    let e = c.loop-g.invariant.1 in
+    let e = c.loop-g.invariant.0 in
     let l = lines_to_lem b v c.loop-g.g (omega arith) in
     (kind_there b c.loop-g.g (omega arith) c.kind_at.ensures, (v.every_gate c.loop-g.g (omega arith)).kind_to, omega arith, omega arith)
     in
@@ -40,7 +39,7 @@ overflow_add-last c =
     let i = counts_inputs b s in
     let hg = v.head.gates_to in
     let hi = v.head.inputs_to in
-    let e = c.loop-g.invariant.1 in
+    let e = c.loop-g.invariant.0 in
     let l = lines_to_lem b v c.loop-g.g (omega arith) in
     (kind_there b c.loop-g.g (omega arith) c.kind_at.ensures, (v.every_gate c.loop-g.g (omega arith)).kind_to, omega arith, omega arith)
     in
@@ -65,7 +64,7 @@ loop-g-preserved c =
     let i = counts_inputs b s in
     let hg = v.head.gates_to in
     let hi = v.head.inputs_to in
-    let e = c.loop-g.invariant.1 in
+    let e = c.loop-g.invariant.0 in
     let l = lines_to_lem b v c.loop-g.g (omega arith) in
     (kind_there b c.loop-g.g (omega arith) c.kind_at.ensures, (v.every_gate c.loop-g.g (omega arith)).kind_to, omega arith, omega arith)
     in
@@ -76,7 +75,7 @@ loop-g-preserved c =
     let n = counts_gates b s in
     let d = c.count_of-lines.ensures.0 ∙ ap count kind_is.0 in
     let m = lines_more b g in
-    (omega arith, omega arith, simp length-set i.2, table_more b c.loop-g.last g (c.counts-counts.result.inputs + (c.loop-g.lines + c.count_of-lines.result) - 1) (omega arith) (last_is b g c.counts-counts.result.inputs c.loop-g.lines c.count_of-lines.result (counts_inputs b s) i.1 d) i.3)
+    (omega arith, table_more b c.loop-g.last g (c.counts-counts.result.inputs + (c.loop-g.lines + c.count_of-lines.result) - 1) (omega arith) (last_is b g c.counts-counts.result.inputs c.loop-g.lines c.count_of-lines.result (counts_inputs b s) i.0 d) i.1)
 
 pub returns-clause-value : goal.returns-clause-value
 returns-clause-value c =
@@ -84,7 +83,7 @@ returns-clause-value c =
     let n = counts_gates b c.counts-counts.ensures in
     let i = c.loop-g.invariant in
     let e : c.loop-g.g ≡ gates b = omega arith in
-    i.1 ∙ ap (lines_to b) e
+    i.0 ∙ ap (lines_to b) e
 
 pub returns-clause-wired : goal.returns-clause-wired
 returns-clause-wired c =
@@ -92,4 +91,4 @@ returns-clause-wired c =
     let n = counts_gates b c.counts-counts.ensures in
     let i = c.loop-g.invariant in
     let e : c.loop-g.g ≡ gates b = omega arith in
-    record { last = λ g l. i.3 g (omega arith) }
+    record { last = λ g l. i.1 g (omega arith) }

@@ -21,14 +21,14 @@ loop-g-init c =
     let b = a.bytes.now in
     let i = counts_inputs b c.counts-counts.ensures in
     let z = lines_none b in
-    (omega arith, omega arith, rows_none a.out.now a.at (gate_text b))
+    (omega arith, rows_none a.out.now a.at (gate_text b))
 
 pub overflow_add-n : goal.overflow_add-n
 overflow_add-n c =
     let b = c.args.bytes.now in
     let n = counts_gates b c.counts-counts.ensures in
     let f = first_small b c.requires.valid c.loop-g.g (omega arith) in
-    let e = c.loop-g.invariant.1 in
+    let e = c.loop-g.invariant.0 in
     omega arith
 
 pub loop-g-preserved : goal.loop-g-preserved
@@ -43,9 +43,9 @@ loop-g-preserved c =
     let i = c.loop-g.invariant in
     let d = c.count_of-n.ensures.0 ∙ ap count kind_is.0 in
     let m = lines_more b c.loop-g.g in
-    let z = i.1 in
+    let z = i.0 in
     let e = c.put_gate-to.ensures in
-    (omega arith, omega arith, rows_more a.out.now a.at (gate_text b) c.loop-g.g i.2 e.value e.out_after)
+    (omega arith, rows_more a.out.now a.at (gate_text b) c.loop-g.g i.1 e.value e.out_after)
 
 pub put_gate-to-requires-clause-g_bound : goal.put_gate-to-requires-clause-g_bound
 put_gate-to-requires-clause-g_bound c =
@@ -55,14 +55,14 @@ put_gate-to-requires-clause-g_bound c =
     let i = c.loop-g.invariant in
     let l = length-gates b p.valid c.loop-g.g (omega arith) in
     let h = p.valid.head.gates_to in
-    let z = i.2.place in
-    (omega arith, i.1, omega arith)
+    let z = i.1.place in
+    (omega arith, i.0, omega arith)
 
 pub returns-clause-value : goal.returns-clause-value
 returns-clause-value c =
     let a = c.args in
     let b = a.bytes.now in
-    let w = c.loop-g.invariant.2 in
+    let w = c.loop-g.invariant.1 in
     let n = counts_gates b c.counts-counts.ensures in
     let z : c.loop-g.g ≡ gates b = omega arith in
     w.place ∙ ap (λ (k : ℕ). a.at + length (joined k (gate_text b))) z
@@ -71,7 +71,7 @@ pub returns-clause-out_after : goal.returns-clause-out_after
 returns-clause-out_after c =
     let a = c.args in
     let b = a.bytes.now in
-    let w = c.loop-g.invariant.2 in
+    let w = c.loop-g.invariant.1 in
     let n = counts_gates b c.counts-counts.ensures in
     let z : c.loop-g.g ≡ gates b = omega arith in
     w.text ∙ ap (λ (k : ℕ). laid a.out.now a.at (joined k (gate_text b))) z

@@ -18,10 +18,10 @@ use Rattle.bristol_export.proofs.Pieces.{output_is}
 use Rattle.bristol_export.proofs.whole.put_outputs.Goals as goal
 
 pub loop-o-init : goal.loop-o-init
-loop-o-init c = let a = c.args in (omega arith, rows_none a.out.now a.at (output_text a.bytes.now))
+loop-o-init c = let a = c.args in rows_none a.out.now a.at (output_text a.bytes.now)
 
-pub overflow_add-inputs : goal.overflow_add-inputs
-overflow_add-inputs c =
+pub overflow_add-counts : goal.overflow_add-counts
+overflow_add-counts c =
     let told : (c.wire_of-w.result ≡ text_wire c.args.bytes.now (output_at c.args.bytes.now c.loop-o.o)) × (c.wire_of-w.result < 3328) × (c.counts-counts.result.inputs + c.args.lines ≡ first_wire c.args.bytes.now (gates c.args.bytes.now)) × (first_wire c.args.bytes.now (gates c.args.bytes.now) ≤ 3328) × (c.loop-o.o < 64) × (c.loop-o.o < outputs c.args.bytes.now) =
     let b = c.args.bytes.now in
     let p = c.requires in
@@ -38,8 +38,8 @@ overflow_add-inputs c =
     in
     let t = told in let q = t.2 in let r = t.3 in omega arith
 
-pub overflow_add-inputs-in-loop-o : goal.overflow_add-inputs-in-loop-o
-overflow_add-inputs-in-loop-o c =
+pub overflow_add-counts-in-loop-o : goal.overflow_add-counts-in-loop-o
+overflow_add-counts-in-loop-o c =
     let told : (c.wire_of-w.result ≡ text_wire c.args.bytes.now (output_at c.args.bytes.now c.loop-o.o)) × (c.wire_of-w.result < 3328) × (c.counts-counts.result.inputs + c.args.lines ≡ first_wire c.args.bytes.now (gates c.args.bytes.now)) × (first_wire c.args.bytes.now (gates c.args.bytes.now) ≤ 3328) × (c.loop-o.o < 64) × (c.loop-o.o < outputs c.args.bytes.now) =
     let b = c.args.bytes.now in
     let p = c.requires in
@@ -81,7 +81,7 @@ put_line-to-requires c =
     let u = t.4 in
     let y = t.5 in
     let l = length-outputs b p.valid c.loop-o.o (omega arith) in
-    let z = c.loop-o.invariant.1.place in
+    let z = c.loop-o.invariant.place in
     (omega arith, lit≤ tt, lit≤ tt, omega arith, lit< tt, omega arith)
 
 pub loop-o-preserved : goal.loop-o-preserved
@@ -107,13 +107,13 @@ loop-o-preserved c =
     let t = told in
     let e = c.put_line-to.ensures in
     let f = output_is b o t.0 (ap (λ (k : ℕ). k + o) t.2) in
-    (omega arith, rows_more a.out.now a.at (output_text b) o i.1 (e.value ∙ ap (λ l. c.loop-o.to + length l) f) (e.out_after ∙ ap (λ l. laid c.loop-o.out c.loop-o.to l) f))
+    (rows_more a.out.now a.at (output_text b) o i (e.value ∙ ap (λ l. c.loop-o.to + length l) f) (e.out_after ∙ ap (λ l. laid c.loop-o.out c.loop-o.to l) f))
 
 pub returns-clause-value : goal.returns-clause-value
 returns-clause-value c =
     let a = c.args in
     let b = a.bytes.now in
-    let w = c.loop-o.invariant.1 in
+    let w = c.loop-o.invariant in
     let n = counts_outputs b c.counts-counts.ensures in
     let z : c.loop-o.o ≡ outputs b = omega arith in
     w.place ∙ ap (λ (k : ℕ). a.at + length (joined k (output_text b))) z
@@ -122,7 +122,7 @@ pub returns-clause-out_after : goal.returns-clause-out_after
 returns-clause-out_after c =
     let a = c.args in
     let b = a.bytes.now in
-    let w = c.loop-o.invariant.1 in
+    let w = c.loop-o.invariant in
     let n = counts_outputs b c.counts-counts.ensures in
     let z : c.loop-o.o ≡ outputs b = omega arith in
     w.text ∙ ap (λ (k : ℕ). laid a.out.now a.at (joined k (output_text b))) z

@@ -30,5 +30,5 @@ returns-then-j-m c =
     let g = c.args in
     c.negated.ensures ∙ sym (last_entry g.n (length g.table.now) g.i g.table.now c.if-j-m.true)
 
-pub returns : goal.returns
-returns c = let g = c.args in sym (inner_entry g.n (length g.table.now) g.i g.table.now c.if-j-m.false)
+pub returns-else-j-m : goal.returns-else-j-m
+returns-else-j-m c = let g = c.args in sym (inner_entry g.n (length g.table.now) g.i g.table.now c.if-j-m.false)
