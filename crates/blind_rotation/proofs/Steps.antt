@@ -1,12 +1,13 @@
 -- What the callees leave makes a step, and steps make the rotation: each law is the definition's next line.
 -- Assumes nothing.
-use mathlib.Core.Path.{◌≡◌, refl, ap, ap₂, ◌∙◌}
+use mathlib.Core.Path.{◌≡◌, ap, ap₂, ◌∙◌}
 use mathlib.Core.List.{List, []}
 use Prim.Native.Nat.{ℕ, ◌+◌, ◌≤◌, ◌<◌}
 use native.Mathlib.Numerals.{add-one}
+use native.Mathlib.Omega.{arith}
 use lib.ListN.{length, take, replicate}
 use Rattle.ring.specs.Word.{at}
-use Rattle.ring.specs.Poly.{plus, minus}
+use Rattle.ring.specs.Poly.{minus}
 use Rattle.ring.specs.Turn.{rotated}
 use Rattle.params.specs.declared.Params.{Params}
 use Rattle.params.specs.Refusal.{if_done}
@@ -21,6 +22,7 @@ use Rattle.key.specs.Bits.{bit_rows_number, bit_rows}
 use Rattle.key.proofs.Checks.{test_done, bit_done}
 use Rattle.ring.proofs.Places.{length-minus}
 use Rattle.rotation.specs.Amount.{mask_amount, body_amount}
+use Rattle.rotation.proofs.Amounts.{mask_below}
 use Rattle.trgsw.specs.External.{external, cmux_of}
 use Rattle.trgsw.specs.Refusals.{external_number, external_add_out}
 use Rattle.trgsw.proofs.Checks.{external_done}
@@ -32,7 +34,19 @@ use Rattle.ring.specs.Pair.{Pair, pair_plus, pair_minus}
 abbrev pub pair : List ℕ → List ℕ → Pair
 pair a b = record { a = a; b = b }
 
+-- and each of them from the pair
+module _ {a b : List ℕ} {w : Pair} where
+  pub first_is : pair a b ≡ w → a ≡ w.a
+  first_is e = ap (λ (x : Pair). x.a) e
+
+  pub second_is : pair a b ≡ w → b ≡ w.b
+  second_is e = ap (λ (x : Pair). x.b) e
+
 module _ (p : Params) where
+  -- a mask's amount is at most 2N
+  pub amount_to : {k : ℕ} (mask : ℕ) → InRange p → k ≡ mask_amount p mask → k ≤ size p + size p
+  amount_to mask r e = omega (arith, e, mask_below p r mask)
+
   -- the rows that the lookup hands back: it is not refused, so they are those of bit i
   pub rows_is : InRange p → (key : List ℕ) (i : ℕ) → length key ≡ bootstrapping_words p → i < p.n
       → {rows : List ℕ} → rows ≡ if_done (bit_rows_number p (length key) i) (bit_rows p key i) [] → rows ≡ bit_rows p key i
@@ -41,17 +55,15 @@ module _ (p : Params) where
   -- the external product of the turned pair less the pair, added to the pair, is the choice
   pub step_made : InRange p → (rows : List ℕ) (k : ℕ) (x w : Pair) → length rows ≡ bit_words p → length x.a ≡ size p → length x.b ≡ size p
       → w ≡ pair_minus (size p) (turned p k x) x → {u v : List ℕ} → u ≡ (external_add_out p rows w x).a → v ≡ (external_add_out p rows w x).b
-      → (u ≡ (cmux_of p rows x (turned p k x)).a) × (v ≡ (cmux_of p rows x (turned p k x)).b)
+      → pair u v ≡ cmux_of p rows x (turned p k x)
   unfolding cmux_of
   step_made r rows k x w lr la lb ew {u} {v} eu ev =
       let n : ℕ = external_number p (length rows) (length w.a) (length w.b) (length x.a) (length x.b) in
       let lwa : length w.a ≡ size p = ap (λ (q : Pair). length q.a) ew ∙ length-minus (size p) _ _ in
       let lwb : length w.b ≡ size p = ap (λ (q : Pair). length q.b) ew ∙ length-minus (size p) _ _ in
       let d = when_done n (pair_plus (size p) (external p rows w) x) x
-      (external_done p (length rows) (length w.a) (length w.b) (length x.a) (length x.b) (record { range = not_refused p r; rows = lr; first = lwa; second = lwb; into_a = la; into_b = lb })) in (
-        eu ∙ ap (λ (q : Pair). q.a) d ∙ ap (λ (q : Pair). plus (size p) (external p rows q).a x.a) ew,
-        ev ∙ ap (λ (q : Pair). q.b) d ∙ ap (λ (q : Pair). plus (size p) (external p rows q).b x.b) ew,
-      )
+      (external_done p (length rows) (length w.a) (length w.b) (length x.a) (length x.b) (record { range = not_refused p r; rows = lr; first = lwa; second = lwb; into_a = la; into_b = lb })) in
+      ap₂ pair eu ev ∙ d ∙ ap (λ (q : Pair). pair_plus (size p) (external p rows q) x) ew
 
   -- the turned pair less the pair, from what the callees leave
   pub turned_less : (k : ℕ) (a b : List ℕ) {ra rb ta tb : List ℕ} {m n : ℕ} → ra ≡ rotated (size p) k a → rb ≡ rotated (size p) k b → m ≡ size p → n ≡ size p

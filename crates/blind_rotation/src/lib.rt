@@ -15,6 +15,8 @@ use utils::{Amount, Torus};
 pub mod vector;
 
 // One step by the amount k, with one bit's rows: the turned accumulator less the accumulator, in the scratch (ta, tb), times the rows is added to it.
+// Here and below the callees refuse nothing: the parameters are checked, and the lengths are those that they ask for.
+// A pair of polynomials stays two slices, as `blind_rotate` is lent it and `trgsw::external_product_add` takes it: a struct would be filled and taken apart on the way.
 fn step_by(
     p: Checked,
     rows: &[u32],
@@ -28,8 +30,7 @@ fn step_by(
     requires bit { length rows.now ≡ bit_words p }
     requires scratch { Whole p ta.old tb.old }
     requires accumulator { Whole p a.old b.old }
-    ensures a_value { a.new ≡ (cmux_of p rows.now (record { a = a.old; b = b.old }) (turned p k.0 (record { a = a.old; b = b.old }))).a }
-    ensures b_after { b.new ≡ (cmux_of p rows.now (record { a = a.old; b = b.old }) (turned p k.0 (record { a = a.old; b = b.old }))).b }
+    ensures { record { a = a.new; b = b.new } ≡ cmux_of p rows.now (record { a = a.old; b = b.old }) (turned p k.0 (record { a = a.old; b = b.old })) }
 {
     let _ = rotation::poly_mul_with_x_k(p.params, a, k, ta);
     let _ = rotation::poly_mul_with_x_k(p.params, b, k, tb);
@@ -53,8 +54,7 @@ fn step_at(
     requires rows { length key.now ≡ bootstrapping_words p }
     requires scratch { Whole p ta.old tb.old }
     requires accumulator { Whole p a.old b.old }
-    ensures a_value { a.new ≡ (blind_step p key.now i mask.0 (record { a = a.old; b = b.old })).a }
-    ensures b_after { b.new ≡ (blind_step p key.now i mask.0 (record { a = a.old; b = b.old })).b }
+    ensures { record { a = a.new; b = b.new } ≡ blind_step p key.now i mask.0 (record { a = a.old; b = b.old }) }
 {
     let k = rotation::mask_amount_in(p, mask);
     let rows = key::bit_rows(p.params, key, i);
@@ -75,8 +75,7 @@ fn all_steps(
     requires rows { length key.now ≡ bootstrapping_words p }
     requires scratch { Whole p ta.old tb.old }
     requires accumulator { Whole p a.old b.old }
-    ensures a_value { a.new ≡ (steps_to p key.now src.now (record { a = a.old; b = b.old }) p.n).a }
-    ensures b_after { b.new ≡ (steps_to p key.now src.now (record { a = a.old; b = b.old }) p.n).b }
+    ensures { record { a = a.new; b = b.new } ≡ steps_to p key.now src.now (record { a = a.old; b = b.old }) p.n }
 {
     for i in 0..p.sizes.n {
         step_at(p, key, i, Torus(src[i]), ta, tb, a, b);
@@ -97,8 +96,7 @@ pub(crate) fn rotate_from(
     requires rows { length key.now ≡ bootstrapping_words p }
     requires scratch { Whole p ta.old tb.old }
     requires accumulator { Whole p a.old b.old }
-    ensures a_value { a.new ≡ (blind_rotated p key.now src.now (record { a = ta.old; b = tb.old })).a }
-    ensures b_after { b.new ≡ (blind_rotated p key.now src.now (record { a = ta.old; b = tb.old })).b }
+    ensures { record { a = a.new; b = b.new } ≡ blind_rotated p key.now src.now (record { a = ta.old; b = tb.old }) }
 {
     let k = rotation::body_amount_in(p, Torus(src[p.sizes.n]));
     let _ = rotation::poly_mul_with_x_k(p.params, ta, k, a);
@@ -120,8 +118,7 @@ fn rotate_test(
     requires rows { length key.now ≡ bootstrapping_words p }
     requires scratch { Whole p ta.old tb.old }
     requires accumulator { Whole p a.old b.old }
-    ensures a_after { a.new ≡ (blind_rotated p key.now src.now (test_pair p)).a }
-    ensures b_after { b.new ≡ (blind_rotated p key.now src.now (test_pair p)).b }
+    ensures { record { a = a.new; b = b.new } ≡ blind_rotated p key.now src.now (test_pair p) }
 {
     let _ = key::gen_testvec(p.params, ta, tb);
     rotate_from(p, src, key, ta, tb, a, b);
@@ -134,8 +131,7 @@ fn put_rotated(p: Checked, src: &[u32], key: &[u32], a: &mut [u32], b: &mut [u32
     requires source { length src.now ≡ p.n + 1 }
     requires rows { length key.now ≡ bootstrapping_words p }
     requires accumulator { Whole p a.old b.old }
-    ensures a_after { a.new ≡ (blind_rotated p key.now src.now (test_pair p)).a }
-    ensures b_after { b.new ≡ (blind_rotated p key.now src.now (test_pair p)).b }
+    ensures { record { a = a.new; b = b.new } ≡ blind_rotated p key.now src.now (test_pair p) }
 {
     let n = p.sizes.size;
     let mut ta = [0u32; 1024];
@@ -149,8 +145,7 @@ fn put_step(p: Checked, key: &[u32], i: usize, mask: Torus, a: &mut [u32], b: &m
     requires index { i < p.n }
     requires rows { length key.now ≡ bootstrapping_words p }
     requires accumulator { Whole p a.old b.old }
-    ensures a_value { a.new ≡ (blind_step p key.now i mask.0 (record { a = a.old; b = b.old })).a }
-    ensures b_after { b.new ≡ (blind_step p key.now i mask.0 (record { a = a.old; b = b.old })).b }
+    ensures { record { a = a.new; b = b.new } ≡ blind_step p key.now i mask.0 (record { a = a.old; b = b.old }) }
 {
     let n = p.sizes.size;
     let mut ta = [0u32; 1024];
@@ -159,7 +154,7 @@ fn put_step(p: Checked, key: &[u32], i: usize, mask: Torus, a: &mut [u32], b: &m
 }
 
 /// Step i of the blind rotation, i below n, by the ciphertext's mask i: what it makes of the accumulator (a, b). Refusals: 1, 2, 3.
-#[tactic(auto, unfolding(crate::specs::Refusals::step_number))]
+#[tactic(auto, using(crate::proofs::Steps::first_is, crate::proofs::Steps::second_is), unfolding(crate::specs::Refusals::step_number))]
 pub fn blind_rotate_step(
     p: Params,
     key: &[u32],
@@ -183,7 +178,7 @@ pub fn blind_rotate_step(
 }
 
 /// The gates' start vector rotated by the level-0 ciphertext src, into (a, b): the fold of the steps. Refusals: 1, 2.
-#[tactic(auto, unfolding(crate::specs::Refusals::blind_number))]
+#[tactic(auto, using(crate::proofs::Steps::first_is, crate::proofs::Steps::second_is), unfolding(crate::specs::Refusals::blind_number))]
 pub fn blind_rotate(
     p: Params,
     src: &[u32],

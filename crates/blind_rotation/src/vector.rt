@@ -26,8 +26,7 @@ fn rotate_copy(
     requires rows { length key.now ≡ bootstrapping_words p }
     requires scratch { Whole p ta.old tb.old }
     requires accumulator { Whole p a.old b.old }
-    ensures a_value { a.new ≡ (blind_rotated p key.now src.now (record { a = va.now; b = vb.now })).a }
-    ensures b_after { b.new ≡ (blind_rotated p key.now src.now (record { a = va.now; b = vb.now })).b }
+    ensures { record { a = a.new; b = b.new } ≡ blind_rotated p key.now src.now (record { a = va.now; b = vb.now }) }
 {
     ta.copy_from_slice(va);
     tb.copy_from_slice(vb);
@@ -49,8 +48,7 @@ fn put_rotated(
     requires vector { Whole p va.now vb.now }
     requires rows { length key.now ≡ bootstrapping_words p }
     requires accumulator { Whole p a.old b.old }
-    ensures a_value { a.new ≡ (blind_rotated p key.now src.now (record { a = va.now; b = vb.now })).a }
-    ensures b_after { b.new ≡ (blind_rotated p key.now src.now (record { a = va.now; b = vb.now })).b }
+    ensures { record { a = a.new; b = b.new } ≡ blind_rotated p key.now src.now (record { a = va.now; b = vb.now }) }
 {
     let n = p.sizes.size;
     let mut ta = [0u32; 1024];
@@ -59,7 +57,7 @@ fn put_rotated(
 }
 
 /// The lent vector (va, vb) rotated by the level-0 ciphertext src, into (a, b): what `blind_rotate` does to the gates' vector. Refusals: 1, 2.
-#[tactic(auto, unfolding(crate::specs::Refusals::vector_number))]
+#[tactic(auto, using(crate::proofs::Steps::first_is, crate::proofs::Steps::second_is), unfolding(crate::specs::Refusals::vector_number))]
 pub fn blind_rotate_with_testvec(
     p: Params,
     src: &[u32],

@@ -1,6 +1,6 @@
 -- `blind_rotation::all_steps` meets its contract: each turn is one more step.
 -- Assumes nothing.
-use Rattle.std.proofs.Common.{refl, ap₂, ◌∙◌}
+use Rattle.std.proofs.Common.{refl, ◌∙◌}
 use Rattle.blind_rotation.specs.Blind.{steps_to}
 use Rattle.blind_rotation.proofs.Steps.{pair, steps_more}
 use Rattle.blind_rotation.proofs.all_steps.Goals as goal
@@ -18,5 +18,5 @@ loop-i-preserved c =
     record {
       scratch = record { first = t.ta ∙ v.scratch.first; second = t.tb ∙ v.scratch.second };
       accumulator = record { first = t.a ∙ v.accumulator.first; second = t.b ∙ v.accumulator.second };
-      made = steps_more g.p g.key.now g.src.now (pair g.a.now g.b.now) l.i v.made (ap₂ pair c.step_at.ensures.a_value c.step_at.ensures.b_after);
+      made = steps_more g.p g.key.now g.src.now (pair g.a.now g.b.now) l.i v.made c.step_at.ensures;
     }

@@ -15,9 +15,9 @@ use Rattle.blind_rotation.specs.Blind.{steps_to, blind_rotated}
 use Rattle.blind_rotation.proofs.Steps.{start_is}
 use Rattle.blind_rotation.proofs.rotate_from.Goals as goal
 
-pub returns-clause-a_value : goal.returns-clause-a_value
+pub returns : goal.returns
 unfolding blind_rotated
-returns-clause-a_value c =
+returns c =
     let g = c.args in
     let r = c.requires in
     let i : InRange g.p = rw (← c.p.view_is) c.p.invariant.0 in
@@ -29,20 +29,4 @@ returns-clause-a_value c =
     let lk : k ≤ size g.p + size g.p = omega (arith, ek, body_to g.p i body) in
     let ra = rotate_written g.p g.ta.now g.a.now k z r.scratch.first r.accumulator.first lk (rw c.p-2.view_is at c.poly_mul_with_x_k.ensures.written) in
     let rb = rotate_written g.p g.tb.now g.b.now k z r.scratch.second r.accumulator.second lk (rw c.p-2.view_is at c.poly_mul_with_x_k-2.ensures.written) in
-    let e = start_is g.p g.ta.now g.tb.now body ek ra rb in c.all_steps.ensures.a_value ∙ ap (λ (w : Pair). (steps_to g.p g.key.now g.src.now w g.p.n).a) e
-
-pub returns-clause-b_after : goal.returns-clause-b_after
-unfolding blind_rotated
-returns-clause-b_after c =
-    let g = c.args in
-    let r = c.requires in
-    let i : InRange g.p = rw (← c.p.view_is) c.p.invariant.0 in
-    let z = not_refused g.p i in
-    let body : ℕ = at g.src.now g.p.n in
-    let k = c.body_amount_in-k.result.0 in
-    let n : c.p.inside.sizes.n ≡ g.p.n = rw c.p.view_is at (ap (λ (s : Sizes). s.n) c.p.invariant.1) in
-    let ek : k ≡ body_amount g.p body = c.body_amount_in-k.ensures ∙ ap (λ (m : ℕ). body_amount g.p (at g.src.now m)) n in
-    let lk : k ≤ size g.p + size g.p = omega (arith, ek, body_to g.p i body) in
-    let ra = rotate_written g.p g.ta.now g.a.now k z r.scratch.first r.accumulator.first lk (rw c.p-2.view_is at c.poly_mul_with_x_k.ensures.written) in
-    let rb = rotate_written g.p g.tb.now g.b.now k z r.scratch.second r.accumulator.second lk (rw c.p-2.view_is at c.poly_mul_with_x_k-2.ensures.written) in
-    let e = start_is g.p g.ta.now g.tb.now body ek ra rb in c.all_steps.ensures.b_after ∙ ap (λ (w : Pair). (steps_to g.p g.key.now g.src.now w g.p.n).b) e
+    let e = start_is g.p g.ta.now g.tb.now body ek ra rb in c.all_steps.ensures ∙ ap (λ (w : Pair). steps_to g.p g.key.now g.src.now w g.p.n) e
