@@ -10,7 +10,8 @@ use utils::Torus;
 #[tactic(auto, unfolding(crate::specs::Size::bits_of))]
 // The bits of a drift's absolute value.
 fn bits_of(drift: u32) -> u32
-    ensures { result ≡ bits_of drift }
+    ensures value { result ≡ bits_of drift }
+    ensures most { result ≤ 32 }
 {
     32 - drift_size::absolute(drift).leading_zeros()
 }

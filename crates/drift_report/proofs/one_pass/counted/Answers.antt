@@ -2,10 +2,10 @@
 -- Assumes nothing.
 use mathlib.Core.Path.{◌≡◌, refl, sym, ap, ap₂, ◌∙◌}
 use mathlib.Core.List.{List}
-use Prim.Native.Nat.{ℕ, ◌+◌, ◌<◌}
+use Prim.Native.Nat.{ℕ, ◌+◌}
 use native.Mathlib.Numerals.{add-one}
 use native.Mathlib.Omega.{arith}
-use lib.ListN.{length, set, length-set}
+use lib.ListN.{length, set}
 use Rattle.ring.specs.Word.{at}
 use Rattle.ring.specs.Sums.{sum_to, tab}
 use Rattle.ring.proofs.Tab.{at-tab}
@@ -20,33 +20,17 @@ use Rattle.drift_report.proofs.one_pass.counted.Goals as goal
 
 pub loop-i-init : goal.loop-i-init
 unfolding count_to sum_to tab leader_to
-loop-i-init c = (refl, refl, refl)
-
-pub bounds-counts-bits : goal.bounds-counts-bits
-bounds-counts-bits c =
-    let sized : c.bits_of-bits.result < 33 =
-    rw c.bits_of-bits.ensures (bits_most (at c.args.drifts.now c.loop-i.i))
-    in
-    omega (arith, sized)
+loop-i-init c = (refl, refl)
 
 pub overflow_add-counts : goal.overflow_add-counts
 overflow_add-counts c =
-    let sized : c.bits_of-bits.result < 33 =
-    rw c.bits_of-bits.ensures (bits_most (at c.args.drifts.now c.loop-i.i))
-    in
     let d = c.args.drifts.now in
     let l = c.loop-i in
     let k = c.bits_of-bits.result in
-    let e : at l.counts k ≡ count_to d l.i k = ap (λ (cs : List ℕ). at cs k) l.invariant.1 ∙ at-tab sizes (count_to d l.i) k sized in
+    let most = c.bits_of-bits.ensures.most in
+    let e : at l.counts k ≡ count_to d l.i k = ap (λ (cs : List ℕ). at cs k) l.invariant.0 ∙ at-tab sizes (count_to d l.i) k (omega arith) in
     let m = count_most d l.i k in
     omega arith
-
-pub bounds-counts-bits-in-loop-i : goal.bounds-counts-bits-in-loop-i
-bounds-counts-bits-in-loop-i c =
-    let sized : c.bits_of-bits.result < 33 =
-    rw c.bits_of-bits.ensures (bits_most (at c.args.drifts.now c.loop-i.i))
-    in
-    omega (arith, sized)
 
 pub loop-i-preserved : goal.loop-i-preserved
 unfolding leader_to
@@ -55,12 +39,11 @@ loop-i-preserved c =
     let d = c.args.drifts.now in
     let f = count_to d l.i in
     let b = bits_of (at d l.i) in (
-      length-set l.counts c.bits_of-bits.result (at l.counts c.bits_of-bits.result + 1) ∙ l.invariant.0,
-      ap (λ (k : ℕ). set l.counts k (at l.counts k + 1)) c.bits_of-bits.ensures
-          ∙ ap (λ (cs : List ℕ). set cs b (at cs b + 1)) l.invariant.1
+      ap (λ (k : ℕ). set l.counts k (at l.counts k + 1)) c.bits_of-bits.ensures.value
+          ∙ ap (λ (cs : List ℕ). set cs b (at cs b + 1)) l.invariant.0
           ∙ ap (λ (v : ℕ). set (tab sizes f) b (v + 1)) (at-tab sizes f b (bits_most (at d l.i)))
           ∙ counted_more d l.i,
-      c.ahead-leader.ensures ∙ ap (λ (x : Leader). ahead x (at_wire l.i (at d l.i))) l.invariant.2 ∙ sym (ap (leader_to d) (add-one l.i)),
+      c.ahead-leader.ensures ∙ ap (λ (x : Leader). ahead x (at_wire l.i (at d l.i))) l.invariant.1 ∙ sym (ap (leader_to d) (add-one l.i)),
     )
 
 pub returns : goal.returns
@@ -69,4 +52,4 @@ returns c =
     let l = c.loop-i in
     let d = c.args.drifts.now in
     let e : l.i ≡ length d = omega arith in
-    ap₂ (λ (counts : List ℕ) (x : Leader). reported counts x (length d)) (l.invariant.1 ∙ ap (λ (m : ℕ). tab sizes (count_to d m)) e) (l.invariant.2 ∙ ap (leader_to d) e)
+    ap₂ (λ (counts : List ℕ) (x : Leader). reported counts x (length d)) (l.invariant.0 ∙ ap (λ (m : ℕ). tab sizes (count_to d m)) e) (l.invariant.1 ∙ ap (leader_to d) e)
