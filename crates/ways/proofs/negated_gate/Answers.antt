@@ -1,6 +1,6 @@
 -- `ways::negated_gate` meets its contract: the gate, and where it did its work each word negated; a refused gate leaves what was lent.
 -- Assumes nothing.
-use Rattle.std.proofs.Common.{rules, ◌≡◌, ◌∙◌, sym}
+use Rattle.std.proofs.Common.{◌∙◌, sym}
 use Rattle.params.specs.Refusal.{answer}
 use Rattle.params.proofs.Answers.{given_ok}
 use Rattle.ways.proofs.Checks.{negated_made}
