@@ -1,13 +1,18 @@
 -- The refusals taken apart: what each answer of 0 tells, and that good arguments are not refused. An answer has three parts, the middle one the circuit's.
 -- Assumes nothing.
-use mathlib.Core.Path.{◌≡◌, refl, ap, ◌∙◌}
+use mathlib.Core.Path.{◌≡◌, refl, sym, ap, ◌∙◌}
+use mathlib.Core.Bool.{Bool, true, false}
 use mathlib.Core.List.{List, [], ◌∷◌}
 use Prim.Native.Nat.{ℕ, ◌+◌, ◌*◌}
+use borrow.Author.Tests.{eqb-true}
+use lib.Dec.{eqb}
+use Rattle.std.specs.Prelude.{Ok}
+use Rattle.params.specs.declared.refusal.Refusal.{Refusal}
 use Rattle.params.specs.declared.Params.{Params}
 use Rattle.params.specs.declared.Answer.{Answer}
-use Rattle.params.specs.Refusal.{answer}
+use Rattle.params.specs.Refusal.{answer, given, unless, Outcome, done as finished}
 use Rattle.params.specs.Sizes.{switching_words, bootstrapping_words}
-use Rattle.params.proofs.Answers.{when_done}
+use Rattle.params.proofs.Answers.{when_done, given_ok, given_done}
 use Rattle.refusals.specs.Table.{Check, is}
 use Rattle.refusals.proofs.Table.{good, done, facts, none}
 use Rattle.circuit.specs.Form.{inputs, outputs, wires, answer_of, or_else}
@@ -27,6 +32,23 @@ module _ (before : ℕ) (bs : List ℕ) (after : ℕ) where
 
   pub around_done : before ≡ 0 → Valid bs → after ≡ 0 → around before bs after ≡ answer 0
   around_done b v a = when_done before _ _ b ∙ when_done (answer_of bs).number _ _ (ap (λ (x : Answer). x.number) (not_refused bs v)) ∙ ap answer a
+
+-- ---- the code's checks
+
+-- a length that was asked for and not refused
+pub asked : (x y : ℕ) (r : Refusal) (v : Unit {0}) {o : Outcome} → o ≡ unless (eqb x y) r finished → o ≡ Ok v → x ≡ y
+asked x y r v e d = go (eqb x y) refl (sym e ∙ d)
+  where
+    go : (b : Bool) → eqb x y ≡ b → unless b r finished ≡ Ok v → x ≡ y
+    go true h q = eqb-true x y h
+    go false h q = absurd (let z : ⊥ = cc in z)
+
+-- what is handed back is the value, and then nothing was refused
+pub given_back : {A : Type 0} (a : Answer) (v : A) {w : A} → given a v ≡ Ok w → (a.number ≡ 0) × (w ≡ v)
+given_back a v {w} e =
+    let z = given_ok a v e in
+    let q : Ok w ≡ Ok v = sym e ∙ given_done a v z in
+    (z, cc)
 
 -- ---- the keys
 

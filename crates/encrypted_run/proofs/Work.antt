@@ -10,15 +10,15 @@ use native.Mathlib.Omega.{arith}
 use lib.ListN.{length, take, drop, length-append, length-map}
 use lib.Seq.{take_at, drop_at}
 use Rattle.ring.specs.Sums.{sum_to}
+use Rattle.std.specs.Prelude.{Ok}
 use Rattle.params.specs.declared.Params.{Params}
 use Rattle.params.specs.declared.Answer.{Answer}
-use Rattle.params.specs.Refusal.{answer}
-use Rattle.params.proofs.Answers.{when_done}
+use Rattle.params.proofs.Answers.{given_done}
 use Rattle.samples.specs.Sample.{rotated_sample}
 use Rattle.kinds.specs.Kinds.{kind_of}
-use Rattle.circuit.specs.Form.{gates, kind_at, operand_at}
+use Rattle.circuit.specs.Form.{answer_of, gates, kind_at, operand_at}
 use Rattle.circuit.specs.Valid.{Valid}
-use Rattle.circuit.specs.Plain.{work_of, worked, work_answer}
+use Rattle.circuit.specs.Plain.{work_of, work_answer}
 use Rattle.circuit.proofs.Accept.{not_refused}
 use Rattle.ways.specs.Ways.{way_of, made, ran}
 use Rattle.ways.specs.Ciphers.{cipher_at}
@@ -59,11 +59,8 @@ module _ (p : Params) (ksk bsk bs ins : List ℕ) where
   work_rotates = sym (counted (gates bs))
 
   -- and `circuit::work` tells it of a valid circuit
-  pub work_told : Valid bs → work_answer bs ≡ worked (answer 0) (length (rotated_of p ksk bsk bs ins))
-  unfolding work_answer
-  work_told v =
-      let e = not_refused bs v in
-      ap₂ worked e (when_done _ _ _ (ap (λ (a : Answer). a.number) e) ∙ work_rotates)
+  pub work_told : Valid bs → work_answer bs ≡ Ok (length (rotated_of p ksk bsk bs ins))
+  work_told v = given_done (answer_of bs) (work_of bs) (ap (λ (a : Answer). a.number) (not_refused bs v)) ∙ ap Ok work_rotates
 
   -- ---- each in its place
 

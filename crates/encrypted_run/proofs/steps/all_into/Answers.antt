@@ -15,14 +15,13 @@ loop-g-init c =
     rw c.requires.wires_length (inputs_fit c.args.p c.args.bytes.now)
     in
     let g = c.args in
-    (omega arith, refl, run_none g.p g.ksk.now g.bsk.now g.bytes.now g.wires.now within)
+    (refl, run_none g.p g.ksk.now g.bsk.now g.bytes.now g.wires.now within)
 
 pub one-requires : goal.one-requires
 one-requires c =
     let l = c.loop-g in
     let e = gates_are c.args.bytes.now c.counts-shape.ensures in
-    let t = c.loop-g-test.true in
-    (rw l.invariant.1 c.requires, omega (arith, e, t))
+    (rw l.invariant.0 c.requires, omega (arith, e))
 
 pub loop-g-preserved : goal.loop-g-preserved
 loop-g-preserved c =
@@ -30,12 +29,9 @@ loop-g-preserved c =
     rw c.requires.wires_length (inputs_fit c.args.p c.args.bytes.now)
     in
     let g = c.args in
-    let l = c.loop-g in
-    let e = gates_are g.bytes.now c.counts-shape.ensures in
-    let t = c.loop-g-test.true in (
-      omega (arith, e, t),
-      c.one.auto.wires ∙ l.invariant.1,
-      c.one.ensures ∙ run_more g.p g.ksk.now g.bsk.now g.bytes.now g.wires.now within l.g l.invariant.2,
+    let l = c.loop-g in (
+      c.one.auto.wires ∙ l.invariant.0,
+      c.one.ensures ∙ run_more g.p g.ksk.now g.bsk.now g.bytes.now g.wires.now within l.g l.invariant.1,
     )
 
 pub returns : goal.returns
@@ -46,5 +42,4 @@ returns c =
     let g = c.args in
     let l = c.loop-g in
     let e = gates_are g.bytes.now c.counts-shape.ensures in
-    let t = c.loop-g-test.false in
-    run_end g.p g.ksk.now g.bsk.now g.bytes.now g.wires.now within l.g l.invariant.0 (omega (arith, e, t)) c.requires.wires_length l.invariant.2
+    run_end g.p g.ksk.now g.bsk.now g.bytes.now g.wires.now within l.g (omega (arith, e)) (omega (arith, e)) c.requires.wires_length l.invariant.1

@@ -25,7 +25,6 @@ put_at-requires c =
     let b = g.bytes.now in
     let i = inputs_are b c.counts-shape.ensures in
     let l = c.requires.1 in (
-      c.requires.0.keys.good,
       ap length c.gate_into.ensures ∙ gate_length g.p g.ksk.now g.bsk.now b _ g.g,
       rw c.requires.0.wires_length (wire_within g.p (c.counts-shape.result.inputs + g.g) (wires b) (omega (arith, i, l))),
     )

@@ -21,12 +21,12 @@ pub loop-o-init : goal.loop-o-init
 loop-o-init c =
     let g = c.args in
     let e = joined_none (g.p.n + 1) (output_cipher g.p g.bytes.now g.wires.now) g.out.now in
-    (omega arith, refl, e.0, e.1)
+    (refl, e.0, e.1)
 
 pub put_at-requires : goal.put_at-requires
 put_at-requires c =
     let within : c.loop-o.o < outputs c.args.bytes.now =
-    let e = outputs_are c.args.bytes.now c.counts-shape.ensures in let t = c.loop-o-test.true in omega (arith, e, t)
+    let e = outputs_are c.args.bytes.now c.counts-shape.ensures in omega (arith, e)
     in
     let wire : c.output_at-w.result ≡ output_at c.args.bytes.now c.loop-o.o =
     let b = c.args.bytes.now in
@@ -35,22 +35,21 @@ put_at-requires c =
     in
     let lies : Within c.args.p c.output_at-w.result (length c.args.wires.now) =
     let b = c.args.bytes.now in
-    let h = c.requires.1.every_output c.loop-o.o within in
+    let h = c.requires.0.every_output c.loop-o.o within in
     let e = wire in
-    rw c.requires.2 (wire_within c.args.p c.output_at-w.result (wires b) (omega (arith, h, e)))
+    rw c.requires.1 (wire_within c.args.p c.output_at-w.result (wires b) (omega (arith, h, e)))
     in
     let g = c.args in
     let l = c.loop-o in
     let h = within in (
-      c.requires.0,
       ap length c.ciphertext.ensures ∙ cipher_length g.p g.wires.now c.output_at-w.result lies,
-      rw (l.invariant.1, c.requires.3) (wire_within g.p l.o (outputs g.bytes.now) (omega (arith, h))),
+      rw (l.invariant.0, c.requires.2) (wire_within g.p l.o (outputs g.bytes.now) (omega (arith, h))),
     )
 
 pub loop-o-preserved : goal.loop-o-preserved
 loop-o-preserved c =
     let within : c.loop-o.o < outputs c.args.bytes.now =
-    let e = outputs_are c.args.bytes.now c.counts-shape.ensures in let t = c.loop-o-test.true in omega (arith, e, t)
+    let e = outputs_are c.args.bytes.now c.counts-shape.ensures in omega (arith, e)
     in
     let wire : c.output_at-w.result ≡ output_at c.args.bytes.now c.loop-o.o =
     let b = c.args.bytes.now in
@@ -62,9 +61,9 @@ loop-o-preserved c =
     in
     let lies : Within c.args.p c.output_at-w.result (length c.args.wires.now) =
     let b = c.args.bytes.now in
-    let h = c.requires.1.every_output c.loop-o.o within in
+    let h = c.requires.0.every_output c.loop-o.o within in
     let e = wire in
-    rw c.requires.2 (wire_within c.args.p c.output_at-w.result (wires b) (omega (arith, h, e)))
+    rw c.requires.1 (wire_within c.args.p c.output_at-w.result (wires b) (omega (arith, h, e)))
     in
     let g = c.args in
     let m = g.p.n + 1 in
@@ -74,13 +73,12 @@ loop-o-preserved c =
     let next = sym (joined_next f l.o) in
     let r = row in
     let long : length (f l.o) ≡ m = ap length (sym r) ∙ ap length c.ciphertext.ensures ∙ cipher_length g.p g.wires.now c.output_at-w.result lies in
-    let k = l.invariant.2 in (
-      omega (arith, h),
-      c.put_at.auto.into ∙ l.invariant.1,
+    let k = l.invariant.1 in (
+      c.put_at.auto.into ∙ l.invariant.0,
       ap length (joined_next f l.o) ∙ length-append (joined l.o f) (f l.o) ∙ ap₂ (λ (x y : ℕ). x + y) k long ∙ omega arith,
       c.put_at.ensures
           ∙ ap (λ (x : List ℕ). take (l.o * m) l.out ++ x ++ drop ((l.o + 1) * m) l.out) r
-          ∙ put_next m l.o (joined l.o f) (f l.o) g.out.now k l.invariant.3
+          ∙ put_next m l.o (joined l.o f) (f l.o) g.out.now k l.invariant.2
           ∙ ap (λ (x : List ℕ). x ++ drop ((l.o + 1) * m) g.out.now) next,
     )
 
@@ -90,5 +88,4 @@ returns c =
     let g = c.args in
     let l = c.loop-o in
     let e = outputs_are g.bytes.now c.counts-shape.ensures in
-    let t = c.loop-o-test.false in
-    joined_done (g.p.n + 1) (output_cipher g.p g.bytes.now g.wires.now) g.out.now l.o l.invariant.2 l.invariant.3 (outputs g.bytes.now) l.invariant.0 (omega (arith, e, t)) c.requires.3
+    joined_done (g.p.n + 1) (output_cipher g.p g.bytes.now g.wires.now) g.out.now l.o l.invariant.1 l.invariant.2 (outputs g.bytes.now) (omega (arith, e)) (omega (arith, e)) c.requires.2

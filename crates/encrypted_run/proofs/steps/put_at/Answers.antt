@@ -5,4 +5,4 @@ use Rattle.encrypted_run.proofs.Wires.{put_made}
 use Rattle.encrypted_run.proofs.steps.put_at.Goals as goal
 
 pub returns : goal.returns
-returns c = let g = c.args in put_made (g.p.n + 1) g.w g.c.now g.into.now c.requires.1 c.requires.2 c.copy.ensures
+returns c = let g = c.args in put_made (g.p.n + 1) g.w g.c.now g.into.now c.requires.0 c.requires.1 c.copy.ensures
