@@ -41,7 +41,7 @@ fn gate_into(
     let y = ciphertext(p, before, circuit::operand_at(bytes, g, 1));
     let z = ciphertext(p, before, circuit::operand_at(bytes, g, 2));
     // neither the lengths nor the parameters are at fault here
-    let _run = ways::run_way(p, way, x, y, z, ksk, bsk, out);
+    let _ = ways::run_way(p, way, x, y, z, ksk, bsk, out);
 }
 
 // Gate g's ciphertext in the scratch c, and then in its place.

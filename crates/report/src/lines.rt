@@ -80,7 +80,7 @@ fn put_row_over(
 {
     row_inputs(r, ins);
     // a valid circuit on slices of its lengths is not refused
-    let _run = circuit::run_plain(bytes, ins, outs);
+    let _ = circuit::run_plain(bytes, ins, outs);
     put_line(out, at, ins, outs)
 }
 

@@ -7,8 +7,7 @@ use Prim.Native.Nat.{ℕ, ◌+◌, ◌<◌}
 use lib.Dec.{lit<}
 use lib.ListN.{length}
 use Rattle.params.specs.declared.Params.{Params}
-use Rattle.params.specs.declared.Answer.{Answer}
-use Rattle.params.specs.Refusal.{answer, if_done}
+use Rattle.params.specs.Refusal.{answer, outcome, Outcome, if_done}
 use Rattle.params.specs.Ranges.{params_number}
 use Rattle.params.specs.Sizes.{switching_words, bootstrapping_words}
 use Rattle.params.proofs.Answers.{when_done, when_refused, kept}
@@ -52,8 +51,8 @@ module _ (p : Params) (ksk bsk a b c o : List ℕ) where
   refused w = way_number p w (length a) (length b) (length c) (length ksk) (length bsk) (length o)
 
   -- the answer r and the words out are those of the way w
-  abbrev Does : Way → Answer → List ℕ → Type 0
-  Does w r out = (r ≡ answer (refused w)) × (out ≡ if_done (refused w) (ran p ksk bsk w a b c) o)
+  abbrev Does : Way → Outcome → List ℕ → Type 0
+  Does w r out = (r ≡ outcome (answer (refused w))) × (out ≡ if_done (refused w) (ran p ksk bsk w a b c) o)
 
   -- the refusals of the gates with a rotation
   abbrev two : ℕ
@@ -62,28 +61,28 @@ module _ (p : Params) (ksk bsk a b c o : List ℕ) where
   abbrev three : ℕ
   three = mux_number p (length a) (length b) (length c) (length ksk) (length bsk) (length o)
 
-  module _ {way : Way} {r : Answer} {out : List ℕ} where
+  module _ {way : Way} {r : Outcome} {out : List ℕ} where
     as_way : {is : Way} → way ≡ is → Does is r out → Does way r out
     as_way e h = rw e h
 
-    pub does_known : {bit : Bool} → way ≡ Known bit → r ≡ answer (constant_number p (length o)) → out ≡ if_done (constant_number p (length o)) (constant_of p bit) o → Does way r out
+    pub does_known : {bit : Bool} → way ≡ Known bit → r ≡ outcome (answer (constant_number p (length o))) → out ≡ if_done (constant_number p (length o)) (constant_of p bit) o → Does way r out
     unfolding way_number
     does_known {bit} e x y = as_way e (x, y ∙ ap (λ (l : List ℕ). if_done (constant_number p (length o)) l o) (sym (ran_known p ksk bsk a b c bit)))
 
-    pub does_negated : way ≡ Negated → r ≡ answer (linear_number p Zero (length a) (length a) (length o)) → out ≡ if_done (linear_number p Zero (length a) (length a) (length o)) (negative (p.n + 1) a) o
+    pub does_negated : way ≡ Negated → r ≡ outcome (answer (linear_number p Zero (length a) (length a) (length o))) → out ≡ if_done (linear_number p Zero (length a) (length a) (length o)) (negative (p.n + 1) a) o
         → Does way r out
     unfolding way_number
     does_negated e x y = as_way e (x, y ∙ ap (λ (l : List ℕ). if_done (linear_number p Zero (length a) (length a) (length o)) l o) (sym (ran_negated p ksk bsk a b c)))
 
-    pub does_gate : {kind : Kind} → way ≡ Gate kind → r ≡ answer two → out ≡ gate_out p kind a b ksk bsk o → Does way r out
+    pub does_gate : {kind : Kind} → way ≡ Gate kind → r ≡ outcome (answer two) → out ≡ gate_out p kind a b ksk bsk o → Does way r out
     unfolding way_number
     does_gate {kind} e x y = as_way e (x, y ∙ ap (λ (l : List ℕ). if_done two l o) (sym (ran_gate p ksk bsk a b c kind)))
 
-    pub does_negated_gate : {kind : Kind} → way ≡ NegatedGate kind → r ≡ answer two → out ≡ if_done two (negative (p.n + 1) (gated p kind ksk bsk a b)) o → Does way r out
+    pub does_negated_gate : {kind : Kind} → way ≡ NegatedGate kind → r ≡ outcome (answer two) → out ≡ if_done two (negative (p.n + 1) (gated p kind ksk bsk a b)) o → Does way r out
     unfolding way_number
     does_negated_gate {kind} e x y = as_way e (x, y ∙ ap (λ (l : List ℕ). if_done two l o) (sym (ran_negated_gate p ksk bsk a b c kind)))
 
-    pub does_choice : way ≡ Choice → r ≡ answer three → out ≡ mux_out muxed p a b c ksk bsk o → Does way r out
+    pub does_choice : way ≡ Choice → r ≡ outcome (answer three) → out ≡ mux_out muxed p a b c ksk bsk o → Does way r out
     unfolding way_number
     does_choice e x y = as_way e (x, y ∙ ap (λ (l : List ℕ). if_done three l o) (sym (ran_choice p ksk bsk a b c)))
 

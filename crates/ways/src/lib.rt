@@ -2,7 +2,7 @@
 // One gate of a circuit on ciphertexts (01, 'Circuits'): the way in which each kind is run, that way run, and the ciphertext of a wire among others. It stands above
 // `gates`, and below the runs of whole circuits.
 ghost use Rattle.std.specs.Prelude.{◌≡◌, ◌+◌, ◌*◌, length};
-ghost use Rattle.params.specs.Refusal.{answer, if_done};
+ghost use Rattle.params.specs.Refusal.{answer, outcome, if_done};
 ghost use Rattle.tlwe.specs.Linear.{negative};
 ghost use Rattle.gates.specs.Refusals.{gate_number};
 ghost use Rattle.gates.specs.Gate.{gated};
@@ -12,7 +12,7 @@ ghost use Rattle.ways.specs.Ciphers.{cipher_at};
 ghost use Rattle.ways.specs.Private.{lesser};
 
 use gate_sums::Kind;
-use params::{Answer, Params};
+use params::{Params, Refusal};
 
 /// How a gate of a circuit is run on ciphertexts: a known bit, the first operand negated, a two-input gate, one whose result is negated, or a choice by the
 /// first operand.
@@ -66,15 +66,13 @@ fn negated_gate(
     ksk: &[u32],
     bsk: &[u32],
     out: &mut [u32],
-) -> Answer
-    ensures said { result ≡ answer (gate_number p (length a.now) (length b.now) (length ksk.now) (length bsk.now) (length out.old)) }
+) -> Result<(), Refusal>
+    ensures said { result ≡ outcome (answer (gate_number p (length a.now) (length b.now) (length ksk.now) (length bsk.now) (length out.old))) }
     ensures written { out.new ≡ if_done (gate_number p (length a.now) (length b.now) (length ksk.now) (length bsk.now) (length out.old)) (negative (p.n + 1) (gated p kind ksk.now bsk.now a.now b.now)) out.old }
 {
-    let said = gates::gate(p, kind, a, b, ksk, bsk, out);
-    if said.number == 0 {
-        negate(out);
-    }
-    said
+    gates::gate(p, kind, a, b, ksk, bsk, out)?;
+    negate(out);
+    Ok(())
 }
 
 /// A way on the ciphertexts a, b and c, of which it takes those that it needs. Refusals: 1, 2, as those of the gate that it runs.
@@ -87,8 +85,8 @@ pub fn run_way(
     ksk: &[u32],
     bsk: &[u32],
     out: &mut [u32],
-) -> Answer
-    ensures said { result ≡ answer (way_number p way (length a.now) (length b.now) (length c.now) (length ksk.now) (length bsk.now) (length out.old)) }
+) -> Result<(), Refusal>
+    ensures said { result ≡ outcome (answer (way_number p way (length a.now) (length b.now) (length c.now) (length ksk.now) (length bsk.now) (length out.old))) }
     ensures written { out.new ≡ if_done (way_number p way (length a.now) (length b.now) (length c.now) (length ksk.now) (length bsk.now) (length out.old)) (ran p ksk.now bsk.now way a.now b.now c.now) out.old }
 {
     match way {

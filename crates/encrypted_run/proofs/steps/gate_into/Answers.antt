@@ -69,5 +69,5 @@ returns c =
     gate_made g.p g.ksk.now g.bsk.now b (take end g.wires.now) g.out.now h.0.valid g.g h.0.keys h.2 h.1 (lent ∙ before-own)
     (c.way_of-way.ensures ∙ ap way_of (there g.g n (kind_at b g.g) h.1 c.kind_at.ensures))
     (there g.g n (operand_at b g.g 0) h.1 c.operand_at.ensures) (there g.g n (operand_at b g.g 1) h.1 c.operand_at-2.ensures) (there g.g n (operand_at b g.g 2) h.1 c.operand_at-3.ensures)
-    c.ciphertext-x.ensures c.ciphertext-y.ensures c.ciphertext-z.ensures c.run_way-run.ensures.written
+    c.ciphertext-x.ensures c.ciphertext-y.ensures c.ciphertext-z.ensures c.run_way.ensures.written
     ∙ ap (λ (k : ℕ). gate_cipher g.p g.ksk.now g.bsk.now b (take k g.wires.now) g.g) before-own

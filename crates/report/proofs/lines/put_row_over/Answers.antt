@@ -22,7 +22,7 @@ returns-clause-value c =
     let outs = a.outs.now in
     let ei : ins ≡ row_inputs b a.r = c.row_inputs.ensures ∙ ap (λ (k : ℕ). tab k (λ i. a.r / 2 ^ i % 2)) p.ins_len.0 in
     let g : RunGood b (length ins) (length outs) = record { valid = accepted b p.bytes_value.0; ins_length = c.row_inputs.auto.ins ∙ p.ins_len.0; outs_length = p.ins_len.1 } in
-    let eo = c.run_plain-run.ensures.written ∙ run_writes b ins outs g in
+    let eo = c.run_plain.ensures.written ∙ run_writes b ins outs g in
     let t = ap₂ line_text ei (eo ∙ ap (output_bits b) ei) in
     let e = c.put_line.ensures in
     e.value ∙ ap (λ (l : List ℕ). a.at + length l) t
@@ -37,7 +37,7 @@ returns-clause-out_after c =
     let outs = a.outs.now in
     let ei : ins ≡ row_inputs b a.r = c.row_inputs.ensures ∙ ap (λ (k : ℕ). tab k (λ i. a.r / 2 ^ i % 2)) p.ins_len.0 in
     let g : RunGood b (length ins) (length outs) = record { valid = accepted b p.bytes_value.0; ins_length = c.row_inputs.auto.ins ∙ p.ins_len.0; outs_length = p.ins_len.1 } in
-    let eo = c.run_plain-run.ensures.written ∙ run_writes b ins outs g in
+    let eo = c.run_plain.ensures.written ∙ run_writes b ins outs g in
     let t = ap₂ line_text ei (eo ∙ ap (output_bits b) ei) in
     let e = c.put_line.ensures in
     e.out_after ∙ ap (λ (l : List ℕ). splice a.out.now a.at l) t
