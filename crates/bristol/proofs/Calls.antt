@@ -73,11 +73,11 @@ module _ (text out : List ℕ) where
   said_length done = given_done (import_answer text (length out)) (imported_length text) done
 
   module _ {n : ℕ} (said : import_said text (length out) ≡ Ok n) where
-    done : (import_answer text (length out)).number ≡ 0
+    pub done : (import_answer text (length out)).number ≡ 0
     unfolding import_said
     done = given_ok (import_answer text (length out)) (imported_length text) said
 
-    length_is_said : n ≡ imported_length text
+    pub length_is_said : n ≡ imported_length text
     length_is_said = let e = said_length done in cc
 
     -- which is that of the circuit in front
