@@ -1,16 +1,17 @@
 -- What a call of an import leaves: one that is not refused writes the circuit's bytes in front, and they are a valid circuit that means what the text means; one that is
 -- refused keeps what was lent. The answer is taken apart into the text's and the room.
 -- Assumes nothing.
-use mathlib.Core.Path.{◌≡◌, ap, ◌∙◌}
+use mathlib.Core.Path.{◌≡◌, refl, ap, ◌∙◌}
+use mathlib.Core.Bool.{Bool, true, false}
 use mathlib.Core.List.{List, ◌++◌}
 use Prim.Native.Nat.{ℕ, ◌≤◌, ◌<◌}
 use native.Mathlib.Omega.{arith}
 use borrow.Author.Tests.{leb-true, le-leb, lt-leb}
-use lib.Dec.{lit<}
+use lib.Dec.{lit<, leb}
 use lib.ListN.{length, take, drop}
 use lib.Seq.{take_at}
 use Rattle.params.specs.declared.Answer.{Answer}
-use Rattle.params.specs.Refusal.{answer}
+use Rattle.params.specs.Refusal.{answer, check}
 use Rattle.params.proofs.Answers.{passed, when_done, when_refused, given_done, given_ok}
 use Rattle.std.specs.Prelude.{Ok}
 use Rattle.circuit.specs.Form.{longest}
@@ -21,6 +22,8 @@ use Rattle.bristol_form.specs.Form.{text_answer}
 use Rattle.bristol_form.specs.Valid.{InForm, InLimits}
 use Rattle.bristol_form.specs.Meaning.{meaning_of}
 use Rattle.bristol_form.proofs.Accept.{taken, takes}
+use Rattle.bristol_form.proofs.AnswerTold.{text_told}
+use Rattle.circuit.proofs.Outcomes.{Told, told_or}
 use Rattle.bristol.specs.Import.{imported, imported_length, import_answer, import_said, import_out}
 use Rattle.bristol.proofs.ImportedBytes.{length_is}
 use Rattle.bristol.proofs.Laws.{imported_valid, imported_means}
@@ -73,11 +76,11 @@ module _ (text out : List ℕ) where
   said_length done = given_done (import_answer text (length out)) (imported_length text) done
 
   module _ {n : ℕ} (said : import_said text (length out) ≡ Ok n) where
-    done : (import_answer text (length out)).number ≡ 0
+    pub done : (import_answer text (length out)).number ≡ 0
     unfolding import_said
     done = given_ok (import_answer text (length out)) (imported_length text) said
 
-    length_is_said : n ≡ imported_length text
+    pub length_is_said : n ≡ imported_length text
     length_is_said = let e = said_length done in cc
 
     -- which is that of the circuit in front
@@ -96,3 +99,12 @@ module _ (text out : List ℕ) where
     written_means ins =
         let g = import_good text (length out) done in
         ap (λ (bs : List ℕ). output_bits bs ins) written_front ∙ imported_means text g.form g.limits ins
+
+-- the number and the place that a refused call's refusal tells are those of its answer
+pub import_told : (text : List ℕ) (room : ℕ) → Told (import_answer text room)
+unfolding import_answer
+import_told text room = told_or (text_answer text) (answer (check (leb (imported_length text) room) 2 0)) (text_told text) (go (leb (imported_length text) room))
+  where
+    go : (t : Bool) → Told (answer (check t 2 0))
+    go true = (refl, refl)
+    go false = (refl, refl)

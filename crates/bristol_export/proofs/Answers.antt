@@ -17,6 +17,7 @@ use Rattle.params.proofs.Answers.{kept, given_ok, given_done}
 use Rattle.circuit.specs.Form.{answer_of, or_else}
 use Rattle.circuit.specs.Valid.{Valid}
 use Rattle.circuit.proofs.Accept.{accepted, not_refused, both_done}
+use Rattle.circuit.proofs.Outcomes.{Told, told_or, answer_told}
 use Rattle.bristol_export.specs.Private.{laid}
 use Rattle.bristol_export.specs.Text.{exported}
 use Rattle.bristol_export.specs.Export.{export_answer, export_said, export_out}
@@ -113,3 +114,12 @@ module _ (bs : List ℕ) (room : ℕ) {n : ℕ} (e : export_said bs room ≡ Ok 
   pub length_told : n ≤ room
   unfolding export_answer
   length_told = let w = within_by (leb (length (exported bs)) room) refl answered in let l = length_is in omega arith
+
+-- the number and the place that a refused call's refusal tells are those of its answer
+pub export_told : (bs : List ℕ) (room : ℕ) → Told (export_answer bs room)
+unfolding export_answer
+export_told bs room = told_or (answer_of bs) (answer (check (leb (length (exported bs)) room) 2 0)) (answer_told bs) (go (leb (length (exported bs)) room))
+  where
+    go : (t : Bool) → Told (answer (check t 2 0))
+    go true = (refl, refl)
+    go false = (refl, refl)

@@ -21,3 +21,4 @@ pub mod Whole
 pub mod Examples
 pub mod ExamplesMeaning
 pub mod Determined
+pub mod AnswerTold

@@ -25,17 +25,15 @@ fn tell(text: &[u8], circuit: &mut [u8], line: &mut [u8; 64]) -> Told
     ensures circuit { take result.circuit circuit.new ≡ circuit_of text.now }
     ensures line { take result.line line.new ≡ line_of text.now }
 {
-    let made = bristol::import(text, circuit);
-    if made.number != 0 {
-        let n = report::refused(made.number, made.place, line);
-        return Told {
+    match bristol::import(text, circuit) {
+        Ok(length) => Told {
+            circuit: length,
+            line: 0,
+        },
+        Err(refusal) => Told {
             circuit: 0,
-            line: n,
-        };
-    }
-    Told {
-        circuit: made.length,
-        line: 0,
+            line: report::refused(refusal.number(), refusal.place(), line),
+        },
     }
 }
 
@@ -54,10 +52,8 @@ fn write_told<W: Write, E: Write>(text: &[u8], output: &mut W, errors: &mut E) -
     let mut circuit = [0u8; 8331];
     let mut line = [0u8; 64];
     let told = tell(text, &mut circuit, &mut line);
-    let written = told.circuit;
-    let characters = told.line;
-    output.write_all(&circuit[..written])?;
-    errors.write_all(&line[..characters])
+    output.write_all(&circuit[..told.circuit])?;
+    errors.write_all(&line[..told.line])
 }
 
 // The whole program, of any input and two outputs. Of an input whose bytes are known, and that is not too long, it writes their circuit to the first, or the line of

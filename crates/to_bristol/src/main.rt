@@ -27,18 +27,15 @@ fn tell(input: &[u8], n: usize, text: &mut [u8], line: &mut [u8; 64]) -> Told
     ensures text { (bs : List ℕ) → take (length input.now) bs ≡ take n input.now → take result.text text.new ≡ text_of bs }
     ensures line { (bs : List ℕ) → take (length input.now) bs ≡ take n input.now → take result.line line.new ≡ line_of bs }
 {
-    let made = bristol_export::export(&input[..n], text);
-    let answer = made.answer;
-    if answer.number != 0 {
-        let length = report::refused(answer.number, answer.place as usize, line);
-        return Told {
+    match bristol_export::export(&input[..n], text) {
+        Ok(length) => Told {
+            text: length,
+            line: 0,
+        },
+        Err(refusal) => Told {
             text: 0,
-            line: length,
-        };
-    }
-    Told {
-        text: made.length,
-        line: 0,
+            line: report::refused(refusal.number(), refusal.place(), line),
+        },
     }
 }
 
@@ -64,10 +61,8 @@ fn write_text<R: Read, W: Write, E: Write>(
     let mut text = text_room();
     let mut line = [0u8; 64];
     let told = tell(&bytes, n, &mut text, &mut line);
-    let written = told.text;
-    let characters = told.line;
-    output.write_all(&text[..written])?;
-    errors.write_all(&line[..characters])
+    output.write_all(&text[..told.text])?;
+    errors.write_all(&line[..told.line])
 }
 
 fn main(rt: HostRuntime) -> io::Result<()> {
