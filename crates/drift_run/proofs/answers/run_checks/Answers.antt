@@ -1,6 +1,6 @@
 -- `drift_run::answers::run_checks` meets its contract: the three parts of its answer, one after the other.
 -- Assumes nothing.
-use Rattle.std.proofs.Common.{rules, ◌≡◌, ◌∙◌, sym}
+use Rattle.std.proofs.Common.{rules, ◌∙◌, sym}
 use Rattle.params.proofs.Answers.{given_ok, given_done}
 use Rattle.drift_run.specs.Refusals.{secrets_number, lent_number, drift_answer}
 use Rattle.drift_run.proofs.Checks.{around_first, around_circuit, around_last, around_passed}

@@ -1,6 +1,6 @@
 -- `drift_run::by_way::choice` meets its contract: the wire's phase less what both rotations' sides and the eighth put into it.
 -- Assumes nothing.
-use mathlib.Core.Path.{◌≡◌, ap, ap₂, ◌∙◌}
+use mathlib.Core.Path.{ap, ap₂, ◌∙◌}
 use mathlib.Core.List.{List, [], ◌∷◌}
 use Prim.Native.Nat.{ℕ, ◌+◌, ◌%◌}
 use Rattle.ring.specs.Word.{Q, neg, eighth}

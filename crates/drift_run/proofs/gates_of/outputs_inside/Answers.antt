@@ -1,7 +1,7 @@
 -- `drift_run::gates_of::outputs_inside` meets its contract: a loop that asks of each output.
 -- Assumes nothing.
 use Rattle.std.proofs.Common.{◌∙◌, ap}
-use Prim.Native.Nat.{◌≤◌, ◌<◌}
+use Prim.Native.Nat.{◌<◌}
 use native.Mathlib.Omega.{arith}
 use Rattle.ring.specs.Word.{at}
 use Rattle.circuit.specs.Form.{outputs, output_at}

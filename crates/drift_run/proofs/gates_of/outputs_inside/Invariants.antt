@@ -1,8 +1,7 @@
 use mathlib.Core.Path.{◌≡◌}
-use Prim.Native.Nat.{◌-◌, ◌≤◌}
 use Rattle.ring.specs.Word.{at}
 use Rattle.ring.specs.Sums.{tab}
-use Rattle.circuit.specs.Form.{outputs, output_at}
+use Rattle.circuit.specs.Form.{output_at}
 use Rattle.drift.specs.PrivateCircuit.{all_words}
 use Rattle.drift_run.proofs.gates_of.outputs_inside.Given as goal
 

@@ -1,11 +1,10 @@
 -- `drift_run::rotations::front_of` meets its contract: the sum, and what its turns tell.
 -- Assumes nothing.
-use Rattle.std.proofs.Common.{◌≡◌, ◌∙◌, refl, sym, ap}
+use Rattle.std.proofs.Common.{◌∙◌, refl, sym, ap}
 use Rattle.params.proofs.Ranges.{not_refused}
 use Rattle.tlwe.specs.declared.Level.TheVariants.{Zero}
 use Rattle.tlwe.proofs.Checks.{linear_done}
 use Rattle.gate_sums.proofs.Uses.{sum_written}
-use Rattle.gate_sums.specs.Sum.{summed}
 use Rattle.turns.specs.declared.Rounded.{Rounded}
 use Rattle.turns.proofs.Given.{is_given, ok_same}
 use Rattle.drift_run.proofs.Turned.{sum_told}

@@ -1,6 +1,6 @@
 -- `drift_run::rotations::phase` meets its contract: a binary key of the right length is not refused.
 -- Assumes nothing.
-use Rattle.std.proofs.Common.{◌≡◌, ◌∙◌, refl, ap}
+use Rattle.std.proofs.Common.{ap}
 use lib.ListN.{length}
 use Rattle.params.proofs.Ranges.{not_refused}
 use Rattle.utils.specs.declared.Torus.{Torus}

@@ -1,6 +1,6 @@
 -- `table_drift::drifts::front_on` meets its contract: the table's vector is worked out, and the place read in it.
 -- Assumes nothing.
-use mathlib.Core.Path.{◌≡◌, ap, ap₂, ◌∙◌}
+use mathlib.Core.Path.{ap, ap₂, ◌∙◌}
 use mathlib.Core.List.{List}
 use Prim.Native.Nat.{ℕ, ◌-◌, ◌%◌, ◌≤◌, ◌<◌}
 use native.Mathlib.Omega.{arith}
@@ -10,8 +10,6 @@ use Rattle.ring.specs.Word.{Q, at, neg}
 use Rattle.ring.proofs.Tab.{length-tab}
 use Rattle.params.proofs.Ranges.{not_refused}
 use Rattle.params.specs.Sizes.{size}
-use Rattle.tables.specs.Table.{table_pair}
-use Rattle.tables.specs.Refusals.{table_out}
 use Rattle.table_drift.specs.Private.{front_at}
 use Rattle.tables.proofs.Checks.{table_done}
 use Rattle.turns.proofs.Given.{is_given}

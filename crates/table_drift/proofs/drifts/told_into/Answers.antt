@@ -1,7 +1,7 @@
 -- `table_drift::drifts::told_into` meets its contract: each callee is lent what it asks for, and what they give makes the two drifts.
 -- Assumes nothing.
-use mathlib.Core.Path.{◌≡◌, ap, ap₂, ◌∙◌}
-use mathlib.Core.List.{List, [], ◌∷◌}
+use mathlib.Core.Path.{ap, ap₂, ◌∙◌}
+use mathlib.Core.List.{[], ◌∷◌}
 use Prim.Native.Nat.{ℕ}
 use native.Mathlib.Omega.{arith}
 use Rattle.params.proofs.Ranges.{not_refused}
