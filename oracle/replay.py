@@ -30,11 +30,12 @@ def exported():
             body = " ".join(m.group(3).split())
             call, value = re.match(r"pack\((.*)\)$", body), None
             if not call:
-                call = re.match(r"let (\w) = (.*?\)); let answer = \1\.answer; let (\w+) = (.*?); pack_with\(answer, (.*)\)$", body)
+                call = re.match(r"pack_value\((.*?)(\.map\((.*)\))?\)$", body)
                 if not call:
                     continue
-                value = "bit" if "bit_number" in call.group(4) else "wide" if "low_word" in call.group(4) else "amount" if call.group(3) == "amount" else "torus" if call.group(5) == "value.0" else "word"
-            text = call.group(1) if value is None else call.group(2)
+                how = call.group(3)
+                value = "r.map(u64::from)" if how in (None, "bit_number") else "r" if how == "low_word" else "r.map(|x| u64::from(x.0))"
+            text = call.group(1)
             text = re.sub(r"\bnumbers\(.*?\)", "SET", text)
             found[m.group(1)] = ([k for k in kinds if k[0] not in SIX], text, value)
     return found
@@ -72,11 +73,7 @@ def case(line, kinds, call, value, sets):
     out = [f"fn {name}(rt: &impl Print) -> io::Result<()> {{"] + body + [f"    let r = {put(call, given)};"]
     text = f"{name} {int(results[0][0], 16):08x}"
     if value:
-        out.append("    let answer = r.answer;")
-        field = {"amount": "amount", "torus": "value"}.get(value)
-        out += [f"    let {field} = r.{field};"] if field else []
-        how, x = ("word", f"{field}.0") if field else (value, "r.value")
-        out.append(f'    show::{how}(rt, "{name}", answer, {x})')
+        out.append(f'    show::value(rt, "{name}", {value})')
         text += " | %08x" % int(results[1][0], 16)
     else:
         how = shown[0][0] if len(shown) == 1 else "pair"

@@ -10,7 +10,7 @@ use borrow.Author.Tests.{leb-true, le-leb, lt-leb}
 use lib.Dec.{lit<, leb}
 use lib.ListN.{length, take, drop}
 use lib.Seq.{take_at}
-use Rattle.params.specs.declared.Answer.{Answer}
+use Rattle.params.specs.Refusal.{Answer}
 use Rattle.params.specs.Refusal.{answer, check}
 use Rattle.params.proofs.Answers.{passed, when_done, when_refused, given_done, given_ok}
 use Rattle.std.specs.Prelude.{Ok}

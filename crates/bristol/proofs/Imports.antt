@@ -9,7 +9,7 @@ use Rattle.ring.specs.Lists.{joined}
 use Rattle.ring.specs.Sums.{tab}
 use Rattle.ring.proofs.Tab.{at-tab, length-tab}
 use Rattle.ring.specs.Word.{at}
-use Rattle.params.specs.declared.Answer.{Answer}
+use Rattle.params.specs.Refusal.{Answer}
 use Rattle.params.proofs.Answers.{when_refused, given_done, given_ok}
 use Rattle.bristol_form.specs.declared.Contents.{Contents}
 use Rattle.bristol_form.specs.Says.{gates, wires, inputs, outputs, body, gate_at, made}

@@ -1,7 +1,7 @@
 -- The circuit of a text in the Bristol Fashion form, in our form (02, request 2026-02; 01, 'Circuits'): one gate for each of the text's but EQW, in the text's order.
 use Rattle.std.specs.Prelude.{Result, cond, List, [], ◌∷◌, ◌++◌, ℕ, zero, suc, ◌+◌, ◌*◌, ◌-◌, ◌/◌, ◌%◌, leb, ltb, eqb, length, drop}
 use Rattle.ring.specs.Lists.{joined}
-use Rattle.params.specs.declared.Answer.{Answer}
+use Rattle.params.specs.Refusal.{Answer}
 use Rattle.params.specs.Refusal.{answer, check, if_done, given}
 use Rattle.params.specs.declared.refusal.Refusal.{Refusal}
 use Rattle.circuit.specs.Form.{or_else}

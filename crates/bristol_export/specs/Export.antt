@@ -1,6 +1,6 @@
 -- What `export` answers and leaves (02, request 2026-02).
 use Rattle.std.specs.Prelude.{Result, List, ◌++◌, ℕ, leb, length, drop}
-use Rattle.params.specs.declared.Answer.{Answer}
+use Rattle.params.specs.Refusal.{Answer}
 use Rattle.params.specs.Refusal.{check, answer, if_done, given}
 use Rattle.params.specs.declared.refusal.Refusal.{Refusal}
 use Rattle.circuit.specs.Form.{answer_of, or_else}

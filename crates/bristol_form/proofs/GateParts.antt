@@ -6,7 +6,7 @@ use mathlib.Core.List.{List, [], ◌∷◌}
 use Prim.Native.Nat.{ℕ, suc}
 use lib.Dec.{leb, ltb, eqb}
 use Rattle.std.specs.Prelude.{Result, Ok, Err, OnOk}
-use Rattle.params.specs.declared.Answer.{Answer}
+use Rattle.params.specs.Refusal.{Answer}
 use Rattle.params.specs.declared.refusal.Refusal.{Refusal}
 use Rattle.params.specs.Refusal.{given}
 use Rattle.circuit.specs.Form.{asks, first_at, first, or_else}

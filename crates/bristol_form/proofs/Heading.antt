@@ -10,7 +10,7 @@ use borrow.Author.Tests.{le-leb, lt-leb, lt-ltb, le-ltb, leb-true, ltb-true, ltb
 use lib.Dec.{leb, ltb, eqb}
 use Rattle.std.specs.Prelude.{Result, Ok, Err}
 use Rattle.params.specs.declared.refusal.Refusal.{Refusal}
-use Rattle.params.specs.declared.Answer.{Answer}
+use Rattle.params.specs.Refusal.{Answer}
 use Rattle.params.specs.Refusal.{answer, unless, done, outcome}
 use Rattle.params.specs.declared.refusal.Refusal.TheVariants.{Text, Limit}
 use Rattle.circuit.specs.Form.{first, first_at, asks}

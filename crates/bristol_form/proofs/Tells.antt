@@ -8,7 +8,7 @@ use borrow.Author.Tests.{eqb-true, eqb-false, eq-eqb, ne_eqb}
 use lib.Dec.{eqb}
 use Rattle.std.specs.Prelude.{Result, Ok, Err}
 use Rattle.std.specs.Result.{MatchResult, IsErrAnd, IfOk}
-use Rattle.params.specs.declared.Answer.{Answer}
+use Rattle.params.specs.Refusal.{Answer}
 use Rattle.params.specs.declared.refusal.Refusal.{Refusal}
 use Rattle.params.specs.declared.refusal.Refusal.TheVariants.{Text, Limit}
 use Rattle.params.specs.Refusal.{given, unless, done, refusal_at}

@@ -2,7 +2,7 @@
 -- checks below find at fault, in the text's order; where there is none in the whole text, 12 at the first that shows MAND or a limit of 01 passed. A token that is due and not
 -- there is no number and no name, and its place is the text's length.
 use Rattle.std.specs.Prelude.{Bool, Result, cond, not, ◌&&◌, ◌||◌, List, [], ◌∷◌, ℕ, suc, ◌+◌, ◌-◌, ◌/◌, ◌%◌, leb, ltb, eqb, length}
-use Rattle.params.specs.declared.Answer.{Answer}
+use Rattle.params.specs.Refusal.{Answer}
 use Rattle.params.specs.declared.refusal.Refusal.{Refusal}
 use Rattle.params.specs.Refusal.{given}
 use Rattle.circuit.specs.Form.{FieldCheck, asks, first_at, first, or_else}

@@ -1,7 +1,7 @@
 -- What only routines and proofs need: bits held in bytes, what the parts of a text say.
 use Rattle.std.specs.Prelude.{◌≡◌, Result, Ok, Err, Bool, ◌&&◌, ◌||◌, List, [], ◌∷◌, ℕ, suc, ◌+◌, ◌*◌, ◌-◌, ◌/◌, ◌%◌, ◌^◌, ◌<◌, ◌≤◌, leb, ltb, eqb, length}
 use Rattle.ring.specs.Word.{at}
-use Rattle.params.specs.declared.Answer.{Answer}
+use Rattle.params.specs.Refusal.{Answer}
 use Rattle.params.specs.Refusal.{answer, outcome}
 use Rattle.tokens.specs.Tokens.{past, place_at, name_at, no_number}
 use Rattle.circuit.specs.Form.{asks, first_at, first}

@@ -12,7 +12,7 @@ use borrow.Author.Tests.{leb-true, ltb-true, ltb-false, eqb-true, le-leb, lt-ltb
 use lib.Dec.{T, lit<, ltb, ltb→lt}
 use lib.ListN.{length}
 use Rattle.ring.specs.Word.{at}
-use Rattle.params.specs.declared.Answer.{Answer}
+use Rattle.params.specs.Refusal.{Answer}
 use Rattle.params.specs.Refusal.{answer}
 use Rattle.params.proofs.Answers.{passed}
 use Rattle.kinds.specs.Kinds.{kind_of}

@@ -14,7 +14,7 @@ use lib.ListN.{length, get_or}
 use Rattle.ring.specs.Word.{at}
 use Rattle.ring.specs.Sums.{sum_to}
 use Rattle.ring.proofs.Tab.{at-tab, length-tab}
-use Rattle.params.specs.declared.Answer.{Answer}
+use Rattle.params.specs.Refusal.{Answer}
 use Rattle.params.proofs.Answers.{when_done}
 use Rattle.kinds.specs.Kinds.{kinds, kind_of, bit_meaning}
 use Rattle.circuit.specs.Form.{inputs, gates, outputs, wires, kind_at, operand_at, output_at}

@@ -12,7 +12,7 @@ use lib.Dec.{leb, eqb}
 use lib.ListN.{length, take}
 use lib.Seq.{length-take-le, take_all, get_or-take}
 use Rattle.ring.specs.Word.{at}
-use Rattle.params.specs.declared.Answer.{Answer}
+use Rattle.params.specs.Refusal.{Answer}
 use Rattle.params.specs.Refusal.{answer}
 use Rattle.circuit.specs.Form.{field_at, version, inputs, gates, outputs, output_place, longest, answer_of, head_fields}
 use Rattle.circuit.specs.Private.{check_at, head_answer}

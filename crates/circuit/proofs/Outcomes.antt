@@ -8,7 +8,7 @@ use borrow.Author.Tests.{eq-eqb}
 use lib.Dec.{eqb, ltb}
 use Rattle.std.specs.Prelude.{Result, Ok, Err}
 use Rattle.std.specs.Result.{result_and}
-use Rattle.params.specs.declared.Answer.{Answer}
+use Rattle.params.specs.Refusal.{Answer}
 use Rattle.params.specs.declared.refusal.Refusal.{Refusal}
 use Rattle.params.specs.Refusal.{given, outcome, done, number, place, number_of, place_of, refusal_at}
 use Rattle.params.proofs.Answers.{given_ok, given_done}

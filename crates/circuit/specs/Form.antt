@@ -1,7 +1,7 @@
 -- The circuit form (01, 'Circuits'; docs/DECISIONS.md, Readings): the fields of a circuit's bytes, and the answer that reading them gives.
 use Rattle.std.specs.Prelude.{Bool, cond, List, [], ◌∷◌, ℕ, zero, suc, ◌+◌, ◌*◌, leb, ltb, eqb, length}
 use Rattle.ring.specs.Word.{at}
-use Rattle.params.specs.declared.Answer.{Answer}
+use Rattle.params.specs.Refusal.{Answer}
 use Rattle.params.specs.Refusal.{answer, if_done}
 use Rattle.circuit.specs.declared.Shape.{Shape}
 use Rattle.kinds.specs.Kinds.{kind_of, last_kind}

@@ -2,7 +2,7 @@
 use Rattle.std.specs.Prelude.{Result, List, [], ◌∷◌, ◌++◌, ℕ, zero, suc, eqb, length}
 use Rattle.ring.specs.Word.{at}
 use Rattle.ring.specs.Sums.{sum_to, tab}
-use Rattle.params.specs.declared.Answer.{Answer}
+use Rattle.params.specs.Refusal.{Answer}
 use Rattle.params.specs.declared.refusal.Refusal.{Refusal}
 use Rattle.params.specs.Refusal.{if_done, check, answer, given}
 use Rattle.kinds.specs.Kinds.{kind_of, bit_meaning}

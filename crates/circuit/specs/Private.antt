@@ -1,6 +1,6 @@
 -- What only routines and proofs need, here and in the crates above: answers to parts of what is read.
 use Rattle.std.specs.Prelude.{Bool, cond, List, ℕ, drop}
-use Rattle.params.specs.declared.Answer.{Answer}
+use Rattle.params.specs.Refusal.{Answer}
 use Rattle.circuit.specs.Form.{first_at, head_fields, gate_fields}
 
 -- A refusal, and the place of the field at fault.

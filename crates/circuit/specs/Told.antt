@@ -1,6 +1,6 @@
 -- What a circuit says of itself, as words: for a caller who sizes slices by it (01, 'Circuits').
 use Rattle.std.specs.Prelude.{List, [], ◌∷◌, ℕ, eqb, length}
-use Rattle.params.specs.declared.Answer.{Answer}
+use Rattle.params.specs.Refusal.{Answer}
 use Rattle.params.specs.Refusal.{if_done, check, answer}
 use Rattle.circuit.specs.Form.{version, inputs, gates, outputs, answer_of, or_else}
 use Rattle.circuit.specs.Plain.{work_of}

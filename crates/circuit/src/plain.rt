@@ -81,8 +81,8 @@ pub(crate) fn run_into(bytes: &[u8], ins: &[u8], out: &mut [u8])
     put_outputs(bytes, &bits, out);
 }
 
-#[tactic(auto, using(crate::proofs::Accept::accepted), unfolding(crate::specs::Plain::run_answer, crate::specs::Plain::run_out))]
 /// The circuit's outputs on the bits of its inputs. Refusals: 6 to 10, then 2 for the lengths.
+#[tactic(auto, using(crate::proofs::Accept::accepted), unfolding(crate::specs::Plain::run_answer, crate::specs::Plain::run_out))]
 pub fn run_plain(bytes: &[u8], ins: &[u8], out: &mut [u8]) -> Result<(), Refusal>
     ensures said { result ≡ outcome (run_answer bytes.now (length ins.now) (length out.old)) }
     ensures written { out.new ≡ run_out bytes.now ins.now out.old }

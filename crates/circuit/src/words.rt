@@ -30,8 +30,8 @@ fn tell_into(bytes: &[u8], out: &mut [u32])
     out.copy_from_slice(&[version, inputs, gates, outputs, total(bytes)]);
 }
 
-#[tactic(auto, unfolding(crate::specs::Told::told_answer, crate::specs::Told::told_out))]
 /// Version, inputs, gates, outputs and work of a circuit, into a slice of five words. Refusals: 6 to 10, then 2.
+#[tactic(auto, unfolding(crate::specs::Told::told_answer, crate::specs::Told::told_out))]
 pub fn tell(bytes: &[u8], out: &mut [u32]) -> Result<(), Refusal>
     ensures said { result ≡ outcome (told_answer bytes.now (length out.old)) }
     ensures written { out.new ≡ told_out bytes.now out.old }

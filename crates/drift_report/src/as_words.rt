@@ -9,8 +9,8 @@ use crate::Report;
 use params::Refusal;
 use utils::Torus;
 
-#[tactic(auto, unfolding(crate::specs::Words::report_words))]
 // A report's words.
+#[tactic(auto, unfolding(crate::specs::Words::report_words))]
 fn put(report: Report, out: &mut [u32])
     requires { length out.old ≡ 36 }
     ensures { out.new ≡ report_words report }
@@ -21,8 +21,8 @@ fn put(report: Report, out: &mut [u32])
     rest.copy_from_slice(&last);
 }
 
-#[tactic(auto, unfolding(crate::specs::Words::report_from))]
 // The record of a report's words.
+#[tactic(auto, unfolding(crate::specs::Words::report_from))]
 fn from_words(lent: &[u32]) -> Report
     requires { length lent.now ≡ 36 }
     ensures { result ≡ report_from lent.now }
@@ -47,8 +47,8 @@ pub fn empty_into(out: &mut [u32]) -> Result<(), Refusal>
     Ok(())
 }
 
-#[tactic(auto, unfolding(crate::specs::Report::told, crate::specs::Report::wires_number))]
 /// The report of these drifts into a slice of 36 words. Refusals: 2, 13.
+#[tactic(auto, unfolding(crate::specs::Report::told, crate::specs::Report::wires_number))]
 pub fn report_into(drifts: &[u32], out: &mut [u32]) -> Result<(), Refusal>
     ensures said { result ≡ outcome (answer (report_number (length drifts.now) (length out.old))) }
     ensures written { out.new ≡ if_done (report_number (length drifts.now) (length out.old)) (report_words (report_of drifts.now)) out.old }
@@ -58,8 +58,8 @@ pub fn report_into(drifts: &[u32], out: &mut [u32]) -> Result<(), Refusal>
     Ok(())
 }
 
-#[tactic(auto, unfolding(crate::specs::Report::told, crate::specs::Report::wires_number, crate::specs::Words::report_from))]
 /// The merge of two reports, lent as 36 words each, into a slice of 36 words. Refusals: 2, 13.
+#[tactic(auto, unfolding(crate::specs::Report::told, crate::specs::Report::wires_number, crate::specs::Words::report_from))]
 pub fn merge_into(first: &[u32], second: &[u32], out: &mut [u32]) -> Result<(), Refusal>
     ensures said { result ≡ outcome (answer (merge_number first.now second.now (length out.old))) }
     ensures written { out.new ≡ if_done (merge_number first.now second.now (length out.old)) (report_words (merged (report_from first.now) (report_from second.now))) out.old }

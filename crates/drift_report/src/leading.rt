@@ -11,8 +11,8 @@ pub(crate) struct Leader {
     pub wire: u32,
 }
 
-#[tactic(auto, unfolding(crate::specs::Leader::ahead))]
 // Of two the one whose drift is larger in absolute value, the first at a tie.
+#[tactic(auto, unfolding(crate::specs::Leader::ahead))]
 pub(crate) fn ahead(a: Leader, b: Leader) -> Leader
     ensures { result ≡ ahead a b }
 {
@@ -23,8 +23,8 @@ pub(crate) fn ahead(a: Leader, b: Leader) -> Leader
     }
 }
 
-#[tactic(auto, unfolding(crate::specs::Leader::lead_of))]
 // Of two that lead among so many wires each: the first where the second has no wires, the second where the first has none, else the one that is ahead.
+#[tactic(auto, unfolding(crate::specs::Leader::lead_of))]
 pub(crate) fn lead_of(a: Leader, wires: u32, b: Leader, more: u32) -> Leader
     ensures { result ≡ lead_of a wires b more }
 {

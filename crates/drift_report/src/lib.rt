@@ -22,8 +22,8 @@ pub struct Report {
     pub total: u32,
 }
 
-#[tactic(auto, unfolding(crate::specs::Report::empty_report, ring::specs::Sums::tab))]
 /// The report of no wire.
+#[tactic(auto, unfolding(crate::specs::Report::empty_report, ring::specs::Sums::tab))]
 pub fn empty() -> Report
     ensures { result ≡ empty_report }
 {
@@ -35,8 +35,8 @@ pub fn empty() -> Report
     }
 }
 
-#[tactic(auto, unfolding(crate::specs::Report::told, crate::specs::Report::wires_number))]
 /// The report of these drifts, as a drift run leaves them. Refusals: 13.
+#[tactic(auto, unfolding(crate::specs::Report::told, crate::specs::Report::wires_number))]
 pub fn report_of(drifts: &[u32]) -> Result<Report, Refusal>
     ensures { result ≡ told (wires_number (length drifts.now)) (report_of drifts.now) }
 {
@@ -44,8 +44,8 @@ pub fn report_of(drifts: &[u32]) -> Result<Report, Refusal>
     Ok(one_pass::counted(drifts))
 }
 
-#[tactic(auto, unfolding(crate::specs::Report::told, crate::specs::Report::wires_number))]
 /// The report of the first's wires followed by the second's, of any two records. Refusals: 13.
+#[tactic(auto, unfolding(crate::specs::Report::told, crate::specs::Report::wires_number))]
 pub fn merge(first: Report, second: Report) -> Result<Report, Refusal>
     ensures { result ≡ told (wires_number (first.total + second.total)) (merged first second) }
 {

@@ -7,8 +7,8 @@ use crate::Report;
 use crate::leading::{Leader, ahead};
 use utils::Torus;
 
-#[tactic(auto, unfolding(crate::specs::Size::bits_of))]
 // The bits of a drift's absolute value.
+#[tactic(auto, unfolding(crate::specs::Size::bits_of))]
 fn bits_of(drift: u32) -> u32
     ensures value { result ≡ bits_of drift }
     ensures most { result ≤ 32 }

@@ -14,7 +14,7 @@ use lib.ListN.{length, take, drop, length-append, length-drop, take-append-drop,
 use lib.Seq.{length-take-le, take_at, drop_at, drop-drop, append_snoc}
 use Rattle.ring.specs.Centre.{centre, word_of}
 use Rattle.params.specs.declared.Params.{Params}
-use Rattle.params.specs.declared.Answer.{Answer}
+use Rattle.params.specs.Refusal.{Answer}
 use Rattle.params.specs.Refusal.{answer}
 use Rattle.params.specs.Sizes.{size}
 use Rattle.params.proofs.Answers.{when_done}

@@ -1,7 +1,7 @@
 -- The refusals of a drift run and of one gate of it (01, 'Refusal numbers'): 1; 2 for what does not depend on the circuit; 4 for each secret key; 6 to 10; 2 for the rest.
 use Rattle.std.specs.Prelude.{List, [], ◌∷◌, ℕ, ◌+◌, ◌*◌, length}
 use Rattle.params.specs.declared.Params.{Params}
-use Rattle.params.specs.declared.Answer.{Answer}
+use Rattle.params.specs.Refusal.{Answer}
 use Rattle.params.specs.Sizes.{size, switching_words, bootstrapping_words}
 use Rattle.refusals.specs.Table.{is, holds, first_of, refusal_by}
 use Rattle.tlwe.specs.Key.{binary}

@@ -1,20 +1,20 @@
 // Circuits: reading, counts, work, the plain run and the encrypted run.
 ghost use Rattle.std.specs.Prelude.{◌≡◌, length};
-ghost use Rattle.params.specs.Refusal.{if_done};
+ghost use Rattle.params.specs.Refusal.{outcome};
 ghost use Rattle.circuit.specs.Form.{answer_of};
 ghost use Rattle.circuit.specs.Plain.{run_answer, run_out, work_answer};
 ghost use Rattle.circuit.specs.Told.{told_answer, told_out};
-ghost use Rattle.packing.specs.Packed.{packed, packed_with};
+ghost use Rattle.packing.specs.Packed.{packed, packed_value};
 ghost use Rattle.encrypted_run.specs.Refusals.{encrypted_answer, step_answer};
 ghost use Rattle.encrypted_run.specs.Run.{wires_after, outputs_after, step_after};
 ghost use Rattle.params.specs.Published.{numbers};
 
-use packing::{numbers, pack, pack_with};
+use packing::{numbers, pack, pack_value};
 
 // Whether the bytes are a circuit, and where they are at fault.
 #[unsafe(no_mangle)]
 pub extern "C" fn egl_circuit_check(bytes: &[u8]) -> u64
-    ensures { result ≡ packed (answer_of bytes.now) }
+    ensures { result ≡ packed (outcome (answer_of bytes.now)) }
 {
     pack(circuit::check(bytes))
 }
@@ -22,7 +22,7 @@ pub extern "C" fn egl_circuit_check(bytes: &[u8]) -> u64
 // Version, inputs, gates, outputs and work of a circuit, as five words.
 #[unsafe(no_mangle)]
 pub extern "C" fn egl_circuit_counts(bytes: &[u8], out: &mut [u32]) -> u64
-    ensures said { result ≡ packed (told_answer bytes.now (length out.old)) }
+    ensures said { result ≡ packed (outcome (told_answer bytes.now (length out.old))) }
     ensures written { out.new ≡ told_out bytes.now out.old }
 {
     pack(circuit::tell(bytes, out))
@@ -31,21 +31,15 @@ pub extern "C" fn egl_circuit_counts(bytes: &[u8], out: &mut [u32]) -> u64
 // The work of a circuit, its run's blind rotations, as the value; of a refused one the number and the place.
 #[unsafe(no_mangle)]
 pub extern "C" fn egl_circuit_work(bytes: &[u8]) -> u64
-    ensures { result ≡ if_done (work_answer bytes.now).answer.number (packed_with (work_answer bytes.now).answer (work_answer bytes.now).value) (packed (work_answer bytes.now).answer) }
+    ensures { result ≡ packed_value (work_answer bytes.now) }
 {
-    let w = circuit::work(bytes);
-    let answer = w.answer;
-    let value = w.value;
-    if answer.number != 0 {
-        return pack(answer);
-    }
-    pack_with(answer, value)
+    pack_value(circuit::work(bytes))
 }
 
 // The outputs of a circuit on plain bits.
 #[unsafe(no_mangle)]
 pub extern "C" fn egl_circuit_run_plain(bytes: &[u8], ins: &[u8], out: &mut [u8]) -> u64
-    ensures said { result ≡ packed (run_answer bytes.now (length ins.now) (length out.old)) }
+    ensures said { result ≡ packed (outcome (run_answer bytes.now (length ins.now) (length out.old))) }
     ensures written { out.new ≡ run_out bytes.now ins.now out.old }
 {
     pack(circuit::run_plain(bytes, ins, out))
@@ -67,7 +61,7 @@ pub extern "C" fn egl_circuit_run_encrypted(
     wires: &mut [u32],
     out: &mut [u32],
 ) -> u64
-    ensures said { result ≡ packed (encrypted_answer (numbers n nbit bgbit l basebit t) (length ksk.now) (length bsk.now) bytes.now (length ins.now) (length wires.old) (length out.old)) }
+    ensures said { result ≡ packed (outcome (encrypted_answer (numbers n nbit bgbit l basebit t) (length ksk.now) (length bsk.now) bytes.now (length ins.now) (length wires.old) (length out.old))) }
     ensures held { wires.new ≡ wires_after (numbers n nbit bgbit l basebit t) ksk.now bsk.now bytes.now ins.now wires.old out.old }
     ensures written { out.new ≡ outputs_after (numbers n nbit bgbit l basebit t) ksk.now bsk.now bytes.now ins.now wires.old out.old }
 {
@@ -97,7 +91,7 @@ pub extern "C" fn egl_circuit_run_gate(
     g: usize,
     wires: &mut [u32],
 ) -> u64
-    ensures said { result ≡ packed (step_answer (numbers n nbit bgbit l basebit t) (length ksk.now) (length bsk.now) bytes.now (length wires.old)) }
+    ensures said { result ≡ packed (outcome (step_answer (numbers n nbit bgbit l basebit t) (length ksk.now) (length bsk.now) bytes.now (length wires.old))) }
     ensures written { wires.new ≡ step_after (numbers n nbit bgbit l basebit t) ksk.now bsk.now bytes.now g wires.old }
 {
     pack(encrypted_run::run_gate(

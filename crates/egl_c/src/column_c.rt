@@ -1,6 +1,6 @@
 // A column of gates.
 ghost use Rattle.std.specs.Prelude.{◌≡◌, length};
-ghost use Rattle.params.specs.Refusal.{answer};
+ghost use Rattle.params.specs.Refusal.{answer, outcome};
 ghost use Rattle.params.specs.Published.{numbers};
 ghost use Rattle.packing.specs.Packed.{packed};
 ghost use Rattle.columns.specs.Refusals.{column_number};
@@ -24,7 +24,7 @@ pub extern "C" fn egl_gate_column(
     bsk: &[u32],
     out: &mut [u32],
 ) -> u64
-    ensures said { result ≡ packed (answer (column_number (numbers n nbit bgbit l basebit t) kind count (length pairs.now) (length ksk.now) (length bsk.now) (length out.old))) }
+    ensures said { result ≡ packed (outcome (answer (column_number (numbers n nbit bgbit l basebit t) kind count (length pairs.now) (length ksk.now) (length bsk.now) (length out.old)))) }
     ensures written { out.new ≡ column_out (numbers n nbit bgbit l basebit t) kind count pairs.now ksk.now bsk.now out.old }
 {
     pack(columns::gate_column(

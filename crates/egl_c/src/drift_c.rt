@@ -1,18 +1,18 @@
 // The drift run of a circuit, for whoever holds both secret keys.
 ghost use Rattle.std.specs.Prelude.{◌≡◌, true, ℕ, ◌<◌, length};
 ghost use Rattle.ring.specs.Centre.{centre};
-ghost use Rattle.params.specs.Refusal.{answer};
+ghost use Rattle.params.specs.Refusal.{answer, given};
 ghost use Rattle.tlwe.specs.declared.Level.TheVariants.{Zero};
 ghost use Rattle.tlwe.specs.Key.{keyed_number};
 ghost use Rattle.circuit.specs.Form.{outputs};
 ghost use Rattle.drift.specs.Whole.{inside};
 ghost use Rattle.drift_run.specs.Refusals.{drift_answer, drift_gate_answer};
 ghost use Rattle.drift_run.specs.Run.{Decrypts, fresh_value, inside_after, drift_wires_after, drift_outputs_after, drifts_after, gate_worst, gate_wires_after, gate_drifts_after};
-ghost use Rattle.packing.specs.Packed.{packed_with, packed_told};
+ghost use Rattle.packing.specs.Packed.{packed_value};
 ghost use Rattle.params.specs.Published.{numbers};
 ghost use Rattle.ring.specs.Bit.{bit_number, truth};
 
-use packing::{bit_number, numbers, pack_told, pack_with};
+use packing::{bit_number, numbers, pack_value};
 use utils::Torus;
 
 // 1 where a drift is inside, else 0.
@@ -36,12 +36,9 @@ pub extern "C" fn egl_fresh_drift(
     c: &[u32],
     bit: u8,
 ) -> u64
-    ensures { result ≡ packed_with (answer (keyed_number (numbers n nbit bgbit l basebit t) Zero (length c.now) key.now)) (fresh_value (numbers n nbit bgbit l basebit t) key.now c.now (truth bit)) }
+    ensures { result ≡ packed_value (given (answer (keyed_number (numbers n nbit bgbit l basebit t) Zero (length c.now) key.now)) (fresh_value (numbers n nbit bgbit l basebit t) key.now c.now (truth bit))) }
 {
-    let told = drift_run::fresh_drift(numbers(n, nbit, bgbit, l, basebit, t), key, c, bit != 0);
-    let answer = told.answer;
-    let drift = told.drift;
-    pack_with(answer, drift.0)
+    pack_value(drift_run::fresh_drift(numbers(n, nbit, bgbit, l, basebit, t), key, c, bit != 0).map(|drift| drift.0))
 }
 
 // Gate g of a drift run; the value is what is largest, in absolute value, of the drifts brought into its rotations.
@@ -62,11 +59,11 @@ pub extern "C" fn egl_drift_gate(
     wires: &mut [u32],
     drifts: &mut [u32],
 ) -> u64
-    ensures said { result ≡ packed_told (drift_gate_answer (numbers n nbit bgbit l basebit t) (length ksk.now) (length bsk.now) key.now z.now bytes.now (length wires.old) (length drifts.old)) (gate_worst (numbers n nbit bgbit l basebit t) ksk.now bsk.now key.now z.now bytes.now g wires.old drifts.old) }
+    ensures said { result ≡ packed_value (given (drift_gate_answer (numbers n nbit bgbit l basebit t) (length ksk.now) (length bsk.now) key.now z.now bytes.now (length wires.old) (length drifts.old)) (gate_worst (numbers n nbit bgbit l basebit t) ksk.now bsk.now key.now z.now bytes.now g wires.old drifts.old)) }
     ensures held { wires.new ≡ gate_wires_after (numbers n nbit bgbit l basebit t) ksk.now bsk.now key.now z.now bytes.now g wires.old drifts.old }
     ensures written { drifts.new ≡ gate_drifts_after (numbers n nbit bgbit l basebit t) ksk.now bsk.now key.now z.now bytes.now g wires.old drifts.old }
 {
-    let told = drift_run::drift_gate(
+    pack_value(drift_run::drift_gate(
         numbers(n, nbit, bgbit, l, basebit, t),
         ksk,
         bsk,
@@ -76,10 +73,7 @@ pub extern "C" fn egl_drift_gate(
         g,
         wires,
         drifts,
-    );
-    let answer = told.answer;
-    let worst = told.worst;
-    pack_told(answer, worst.0)
+    ).map(|brought| brought.worst.0))
 }
 
 // A drift run; the value is 1 where all that demand 3 names are inside, else 0.
@@ -102,13 +96,13 @@ pub extern "C" fn egl_drift_run(
     out: &mut [u32],
     drifts: &mut [u32],
 ) -> u64
-    ensures said { result ≡ packed_told (drift_answer (numbers n nbit bgbit l basebit t) (length ksk.now) (length bsk.now) key.now z.now bytes.now (length ins.now) (length plain.now) (length wires.old) (length out.old) (length drifts.old)) (bit_number (inside_after (numbers n nbit bgbit l basebit t) ksk.now bsk.now key.now z.now bytes.now ins.now plain.now wires.old out.old drifts.old)) }
+    ensures said { result ≡ packed_value (given (drift_answer (numbers n nbit bgbit l basebit t) (length ksk.now) (length bsk.now) key.now z.now bytes.now (length ins.now) (length plain.now) (length wires.old) (length out.old) (length drifts.old)) (bit_number (inside_after (numbers n nbit bgbit l basebit t) ksk.now bsk.now key.now z.now bytes.now ins.now plain.now wires.old out.old drifts.old))) }
     ensures held { wires.new ≡ drift_wires_after (numbers n nbit bgbit l basebit t) ksk.now bsk.now key.now z.now bytes.now ins.now plain.now wires.old out.old drifts.old }
     ensures written { out.new ≡ drift_outputs_after (numbers n nbit bgbit l basebit t) ksk.now bsk.now key.now z.now bytes.now ins.now plain.now wires.old out.old drifts.old }
     ensures drifted { drifts.new ≡ drifts_after (numbers n nbit bgbit l basebit t) ksk.now bsk.now key.now z.now bytes.now ins.now plain.now wires.old out.old drifts.old }
     ensures right { inside_after (numbers n nbit bgbit l basebit t) ksk.now bsk.now key.now z.now bytes.now ins.now plain.now wires.old out.old drifts.old ≡ true → (o : ℕ) → o < outputs bytes.now → Decrypts (numbers n nbit bgbit l basebit t) key.now bytes.now plain.now out.new o }
 {
-    let told = drift_run::drift_run(
+    pack_value(drift_run::drift_run(
         numbers(n, nbit, bgbit, l, basebit, t),
         ksk,
         bsk,
@@ -120,8 +114,5 @@ pub extern "C" fn egl_drift_run(
         wires,
         out,
         drifts,
-    );
-    let answer = told.answer;
-    let value = bit_number(told.inside);
-    pack_told(answer, value)
+    ).map(bit_number))
 }

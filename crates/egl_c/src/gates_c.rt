@@ -1,6 +1,6 @@
 // The gates on encrypted bits.
 ghost use Rattle.std.specs.Prelude.{◌≡◌, length};
-ghost use Rattle.params.specs.Refusal.{answer};
+ghost use Rattle.params.specs.Refusal.{answer, outcome};
 ghost use Rattle.gates.specs.Gate.{muxed, muxed_naive, gate_out, mux_out};
 ghost use Rattle.gates.specs.Refusals.{gate_number, mux_number};
 ghost use Rattle.gate_sums.specs.declared.Kind.TheVariants.{Nand, Or, And, Nor, AndNy, AndYn, OrNy, OrYn, Xor, Xnor};
@@ -24,7 +24,7 @@ pub extern "C" fn egl_gates_nand(
     bsk: &[u32],
     out: &mut [u32],
 ) -> u64
-    ensures said { result ≡ packed (answer (gate_number (numbers n nbit bgbit l basebit t) (length a.now) (length b.now) (length ksk.now) (length bsk.now) (length out.old))) }
+    ensures said { result ≡ packed (outcome (answer (gate_number (numbers n nbit bgbit l basebit t) (length a.now) (length b.now) (length ksk.now) (length bsk.now) (length out.old)))) }
     ensures written { out.new ≡ gate_out (numbers n nbit bgbit l basebit t) Nand a.now b.now ksk.now bsk.now out.old }
 {
     pack(named_gates::nand(numbers(n, nbit, bgbit, l, basebit, t), a, b, ksk, bsk, out))
@@ -45,7 +45,7 @@ pub extern "C" fn egl_gates_or(
     bsk: &[u32],
     out: &mut [u32],
 ) -> u64
-    ensures said { result ≡ packed (answer (gate_number (numbers n nbit bgbit l basebit t) (length a.now) (length b.now) (length ksk.now) (length bsk.now) (length out.old))) }
+    ensures said { result ≡ packed (outcome (answer (gate_number (numbers n nbit bgbit l basebit t) (length a.now) (length b.now) (length ksk.now) (length bsk.now) (length out.old)))) }
     ensures written { out.new ≡ gate_out (numbers n nbit bgbit l basebit t) Or a.now b.now ksk.now bsk.now out.old }
 {
     pack(named_gates::or(numbers(n, nbit, bgbit, l, basebit, t), a, b, ksk, bsk, out))
@@ -66,7 +66,7 @@ pub extern "C" fn egl_gates_and(
     bsk: &[u32],
     out: &mut [u32],
 ) -> u64
-    ensures said { result ≡ packed (answer (gate_number (numbers n nbit bgbit l basebit t) (length a.now) (length b.now) (length ksk.now) (length bsk.now) (length out.old))) }
+    ensures said { result ≡ packed (outcome (answer (gate_number (numbers n nbit bgbit l basebit t) (length a.now) (length b.now) (length ksk.now) (length bsk.now) (length out.old)))) }
     ensures written { out.new ≡ gate_out (numbers n nbit bgbit l basebit t) And a.now b.now ksk.now bsk.now out.old }
 {
     pack(named_gates::and(numbers(n, nbit, bgbit, l, basebit, t), a, b, ksk, bsk, out))
@@ -87,7 +87,7 @@ pub extern "C" fn egl_gates_nor(
     bsk: &[u32],
     out: &mut [u32],
 ) -> u64
-    ensures said { result ≡ packed (answer (gate_number (numbers n nbit bgbit l basebit t) (length a.now) (length b.now) (length ksk.now) (length bsk.now) (length out.old))) }
+    ensures said { result ≡ packed (outcome (answer (gate_number (numbers n nbit bgbit l basebit t) (length a.now) (length b.now) (length ksk.now) (length bsk.now) (length out.old)))) }
     ensures written { out.new ≡ gate_out (numbers n nbit bgbit l basebit t) Nor a.now b.now ksk.now bsk.now out.old }
 {
     pack(named_gates::nor(numbers(n, nbit, bgbit, l, basebit, t), a, b, ksk, bsk, out))
@@ -108,7 +108,7 @@ pub extern "C" fn egl_gates_and_ny(
     bsk: &[u32],
     out: &mut [u32],
 ) -> u64
-    ensures said { result ≡ packed (answer (gate_number (numbers n nbit bgbit l basebit t) (length a.now) (length b.now) (length ksk.now) (length bsk.now) (length out.old))) }
+    ensures said { result ≡ packed (outcome (answer (gate_number (numbers n nbit bgbit l basebit t) (length a.now) (length b.now) (length ksk.now) (length bsk.now) (length out.old)))) }
     ensures written { out.new ≡ gate_out (numbers n nbit bgbit l basebit t) AndNy a.now b.now ksk.now bsk.now out.old }
 {
     pack(named_gates::and_ny(numbers(n, nbit, bgbit, l, basebit, t), a, b, ksk, bsk, out))
@@ -129,7 +129,7 @@ pub extern "C" fn egl_gates_and_yn(
     bsk: &[u32],
     out: &mut [u32],
 ) -> u64
-    ensures said { result ≡ packed (answer (gate_number (numbers n nbit bgbit l basebit t) (length a.now) (length b.now) (length ksk.now) (length bsk.now) (length out.old))) }
+    ensures said { result ≡ packed (outcome (answer (gate_number (numbers n nbit bgbit l basebit t) (length a.now) (length b.now) (length ksk.now) (length bsk.now) (length out.old)))) }
     ensures written { out.new ≡ gate_out (numbers n nbit bgbit l basebit t) AndYn a.now b.now ksk.now bsk.now out.old }
 {
     pack(named_gates::and_yn(numbers(n, nbit, bgbit, l, basebit, t), a, b, ksk, bsk, out))
@@ -150,7 +150,7 @@ pub extern "C" fn egl_gates_or_ny(
     bsk: &[u32],
     out: &mut [u32],
 ) -> u64
-    ensures said { result ≡ packed (answer (gate_number (numbers n nbit bgbit l basebit t) (length a.now) (length b.now) (length ksk.now) (length bsk.now) (length out.old))) }
+    ensures said { result ≡ packed (outcome (answer (gate_number (numbers n nbit bgbit l basebit t) (length a.now) (length b.now) (length ksk.now) (length bsk.now) (length out.old)))) }
     ensures written { out.new ≡ gate_out (numbers n nbit bgbit l basebit t) OrNy a.now b.now ksk.now bsk.now out.old }
 {
     pack(named_gates::or_ny(numbers(n, nbit, bgbit, l, basebit, t), a, b, ksk, bsk, out))
@@ -171,7 +171,7 @@ pub extern "C" fn egl_gates_or_yn(
     bsk: &[u32],
     out: &mut [u32],
 ) -> u64
-    ensures said { result ≡ packed (answer (gate_number (numbers n nbit bgbit l basebit t) (length a.now) (length b.now) (length ksk.now) (length bsk.now) (length out.old))) }
+    ensures said { result ≡ packed (outcome (answer (gate_number (numbers n nbit bgbit l basebit t) (length a.now) (length b.now) (length ksk.now) (length bsk.now) (length out.old)))) }
     ensures written { out.new ≡ gate_out (numbers n nbit bgbit l basebit t) OrYn a.now b.now ksk.now bsk.now out.old }
 {
     pack(named_gates::or_yn(numbers(n, nbit, bgbit, l, basebit, t), a, b, ksk, bsk, out))
@@ -192,7 +192,7 @@ pub extern "C" fn egl_gates_xor(
     bsk: &[u32],
     out: &mut [u32],
 ) -> u64
-    ensures said { result ≡ packed (answer (gate_number (numbers n nbit bgbit l basebit t) (length a.now) (length b.now) (length ksk.now) (length bsk.now) (length out.old))) }
+    ensures said { result ≡ packed (outcome (answer (gate_number (numbers n nbit bgbit l basebit t) (length a.now) (length b.now) (length ksk.now) (length bsk.now) (length out.old)))) }
     ensures written { out.new ≡ gate_out (numbers n nbit bgbit l basebit t) Xor a.now b.now ksk.now bsk.now out.old }
 {
     pack(named_gates::xor(numbers(n, nbit, bgbit, l, basebit, t), a, b, ksk, bsk, out))
@@ -213,7 +213,7 @@ pub extern "C" fn egl_gates_xnor(
     bsk: &[u32],
     out: &mut [u32],
 ) -> u64
-    ensures said { result ≡ packed (answer (gate_number (numbers n nbit bgbit l basebit t) (length a.now) (length b.now) (length ksk.now) (length bsk.now) (length out.old))) }
+    ensures said { result ≡ packed (outcome (answer (gate_number (numbers n nbit bgbit l basebit t) (length a.now) (length b.now) (length ksk.now) (length bsk.now) (length out.old)))) }
     ensures written { out.new ≡ gate_out (numbers n nbit bgbit l basebit t) Xnor a.now b.now ksk.now bsk.now out.old }
 {
     pack(named_gates::xnor(numbers(n, nbit, bgbit, l, basebit, t), a, b, ksk, bsk, out))
@@ -235,7 +235,7 @@ pub extern "C" fn egl_gates_mux(
     bsk: &[u32],
     out: &mut [u32],
 ) -> u64
-    ensures said { result ≡ packed (answer (mux_number (numbers n nbit bgbit l basebit t) (length a.now) (length b.now) (length c.now) (length ksk.now) (length bsk.now) (length out.old))) }
+    ensures said { result ≡ packed (outcome (answer (mux_number (numbers n nbit bgbit l basebit t) (length a.now) (length b.now) (length c.now) (length ksk.now) (length bsk.now) (length out.old)))) }
     ensures written { out.new ≡ mux_out muxed (numbers n nbit bgbit l basebit t) a.now b.now c.now ksk.now bsk.now out.old }
 {
     pack(named_gates::mux(
@@ -265,7 +265,7 @@ pub extern "C" fn egl_gates_mux_naive(
     bsk: &[u32],
     out: &mut [u32],
 ) -> u64
-    ensures said { result ≡ packed (answer (mux_number (numbers n nbit bgbit l basebit t) (length a.now) (length b.now) (length c.now) (length ksk.now) (length bsk.now) (length out.old))) }
+    ensures said { result ≡ packed (outcome (answer (mux_number (numbers n nbit bgbit l basebit t) (length a.now) (length b.now) (length c.now) (length ksk.now) (length bsk.now) (length out.old)))) }
     ensures written { out.new ≡ mux_out muxed_naive (numbers n nbit bgbit l basebit t) a.now b.now c.now ksk.now bsk.now out.old }
 {
     pack(named_gates::mux_naive(

@@ -1,18 +1,20 @@
 // Key material: the offset, the test vector, the switching key and its rows.
 ghost use Rattle.std.specs.Prelude.{◌≡◌, length};
-ghost use Rattle.params.specs.Refusal.{answer, if_done};
-ghost use Rattle.key.specs.Offset.{offset_out};
+ghost use Rattle.params.specs.Refusal.{answer, outcome, given, if_done};
+ghost use Rattle.key.specs.Offset.{offset};
 ghost use Rattle.key.specs.Testvec.{test_number, test_pair};
 ghost use Rattle.key.specs.Switching.{lookup_number, place_out};
 ghost use Rattle.key.specs.Generation.{generate_number, generated};
 ghost use Rattle.key.specs.Former.{drop_number, without_idle};
-ghost use Rattle.packing.specs.Packed.{packed, packed_with};
+ghost use Rattle.packing.specs.Packed.{packed, packed_value};
+ghost use Rattle.params.specs.Ranges.{params_number};
 ghost use Rattle.params.specs.Published.{numbers};
 
-use packing::{numbers, pack, pack_with};
+use packing::{numbers, pack, pack_value};
 
 // The decomposition's offset, as the value.
 #[unsafe(no_mangle)]
+#[tactic(auto, unfolding(key::specs::Offset::offset_out))]
 pub extern "C" fn egl_key_decomposition_offset(
     n: u32,
     nbit: u32,
@@ -21,12 +23,9 @@ pub extern "C" fn egl_key_decomposition_offset(
     basebit: u32,
     t: u32,
 ) -> u64
-    ensures { result ≡ packed_with (offset_out (numbers n nbit bgbit l basebit t)).answer (offset_out (numbers n nbit bgbit l basebit t)).value.0 }
+    ensures { result ≡ packed_value (given (answer (params_number (numbers n nbit bgbit l basebit t))) (offset (numbers n nbit bgbit l basebit t))) }
 {
-    let o = key::decomposition_offset(numbers(n, nbit, bgbit, l, basebit, t));
-    let answer = o.answer;
-    let value = o.value;
-    pack_with(answer, value.0)
+    pack_value(key::decomposition_offset(numbers(n, nbit, bgbit, l, basebit, t)).map(|offset| offset.0))
 }
 
 // `gen_testvec`: a zero, b an eighth of a turn in every word. Refusals: 1, 2.
@@ -41,7 +40,7 @@ pub extern "C" fn egl_key_gen_testvec(
     a: &mut [u32],
     b: &mut [u32],
 ) -> u64
-    ensures said { result ≡ packed (answer (test_number (numbers n nbit bgbit l basebit t) (length a.old) (length b.old))) }
+    ensures said { result ≡ packed (outcome (answer (test_number (numbers n nbit bgbit l basebit t) (length a.old) (length b.old)))) }
     ensures first { a.new ≡ if_done (test_number (numbers n nbit bgbit l basebit t) (length a.old) (length b.old)) (test_pair (numbers n nbit bgbit l basebit t)).a a.old }
     ensures second { b.new ≡ if_done (test_number (numbers n nbit bgbit l basebit t) (length a.old) (length b.old)) (test_pair (numbers n nbit bgbit l basebit t)).b b.old }
 {
@@ -63,7 +62,7 @@ pub extern "C" fn egl_key_gen_key_switching_key(
     noise: &[u32],
     out: &mut [u32],
 ) -> u64
-    ensures said { result ≡ packed (answer (generate_number (numbers n nbit bgbit l basebit t) key_lv0.now key_lv1.now (length masks.now) (length noise.now) (length out.old))) }
+    ensures said { result ≡ packed (outcome (answer (generate_number (numbers n nbit bgbit l basebit t) key_lv0.now key_lv1.now (length masks.now) (length noise.now) (length out.old)))) }
     ensures written { out.new ≡ if_done (generate_number (numbers n nbit bgbit l basebit t) key_lv0.now key_lv1.now (length masks.now) (length noise.now) (length out.old)) (generated (numbers n nbit bgbit l basebit t) key_lv0.now key_lv1.now masks.now noise.now) out.old }
 {
     pack(key::gen_key_switching_key(
@@ -88,7 +87,7 @@ pub extern "C" fn egl_key_drop_idle_rows(
     former: &[u32],
     out: &mut [u32],
 ) -> u64
-    ensures said { result ≡ packed (answer (drop_number (numbers n nbit bgbit l basebit t) (length former.now) (length out.old))) }
+    ensures said { result ≡ packed (outcome (answer (drop_number (numbers n nbit bgbit l basebit t) (length former.now) (length out.old)))) }
     ensures written { out.new ≡ if_done (drop_number (numbers n nbit bgbit l basebit t) (length former.now) (length out.old)) (without_idle (numbers n nbit bgbit l basebit t) former.now) out.old }
 {
     pack(key::drop_idle_rows(numbers(n, nbit, bgbit, l, basebit, t), former, out))
@@ -108,7 +107,7 @@ pub extern "C" fn egl_key_switching_row_answer(
     j: usize,
     k: usize,
 ) -> u64
-    ensures { result ≡ packed (answer (lookup_number (numbers n nbit bgbit l basebit t) words i j k)) }
+    ensures { result ≡ packed (outcome (answer (lookup_number (numbers n nbit bgbit l basebit t) words i j k))) }
 {
     pack(key::switching_row_answer(numbers(n, nbit, bgbit, l, basebit, t), words, i, j, k))
 }
@@ -126,10 +125,7 @@ pub extern "C" fn egl_key_row_index(
     j: usize,
     k: usize,
 ) -> u64
-    ensures { result ≡ packed_with (place_out (numbers n nbit bgbit l basebit t) i j k).answer (place_out (numbers n nbit bgbit l basebit t) i j k).value }
+    ensures { result ≡ packed_value (place_out (numbers n nbit bgbit l basebit t) i j k) }
 {
-    let found = key::row_index(numbers(n, nbit, bgbit, l, basebit, t), i, j, k);
-    let answer = found.answer;
-    let value = found.value;
-    pack_with(answer, value)
+    pack_value(key::row_index(numbers(n, nbit, bgbit, l, basebit, t), i, j, k))
 }

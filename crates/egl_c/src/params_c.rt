@@ -1,8 +1,9 @@
 // The parameters: whether all six numbers are in range.
-ghost use Rattle.std.specs.Prelude.{◌≡◌};
-ghost use Rattle.params.specs.Refusal.{answer};
+ghost use Rattle.std.specs.Prelude.{◌≡◌, eqb};
+ghost use Rattle.params.specs.Refusal.{unless, done};
 ghost use Rattle.params.specs.Ranges.{params_number};
 ghost use Rattle.packing.specs.Packed.{packed};
+ghost use Rattle.params.specs.declared.refusal.Refusal.TheVariants.{Parameters};
 ghost use Rattle.params.specs.Published.{numbers};
 
 use packing::{numbers, pack};
@@ -17,7 +18,7 @@ pub extern "C" fn egl_params_check(
     basebit: u32,
     t: u32,
 ) -> u64
-    ensures { result ≡ packed (answer (params_number (numbers n nbit bgbit l basebit t))) }
+    ensures { result ≡ packed (unless (eqb (params_number (numbers n nbit bgbit l basebit t)) 0) Parameters done) }
 {
-    pack(params::check_answer(numbers(n, nbit, bgbit, l, basebit, t)))
+    pack(params::check(numbers(n, nbit, bgbit, l, basebit, t)).map(|_| ()))
 }

@@ -1,6 +1,6 @@
 // The exact product.
 ghost use Rattle.std.specs.Prelude.{◌≡◌, length};
-ghost use Rattle.params.specs.Refusal.{answer};
+ghost use Rattle.params.specs.Refusal.{answer, outcome};
 ghost use Rattle.product.specs.Product.{product_number, poly_mul_out, poly_mul_add_out};
 ghost use Rattle.packing.specs.Packed.{packed};
 ghost use Rattle.params.specs.Published.{numbers};
@@ -20,7 +20,7 @@ pub extern "C" fn egl_product_poly_mul(
     b: &[u32],
     out: &mut [u32],
 ) -> u64
-    ensures said { result ≡ packed (answer (product_number (numbers n nbit bgbit l basebit t) (length a.now) (length b.now) (length out.old))) }
+    ensures said { result ≡ packed (outcome (answer (product_number (numbers n nbit bgbit l basebit t) (length a.now) (length b.now) (length out.old)))) }
     ensures written { out.new ≡ poly_mul_out (numbers n nbit bgbit l basebit t) a.now b.now out.old }
 {
     pack(product::poly_mul(numbers(n, nbit, bgbit, l, basebit, t), a, b, out))
@@ -39,7 +39,7 @@ pub extern "C" fn egl_product_poly_mul_add(
     b: &[u32],
     out: &mut [u32],
 ) -> u64
-    ensures said { result ≡ packed (answer (product_number (numbers n nbit bgbit l basebit t) (length a.now) (length b.now) (length out.old))) }
+    ensures said { result ≡ packed (outcome (answer (product_number (numbers n nbit bgbit l basebit t) (length a.now) (length b.now) (length out.old)))) }
     ensures written { out.new ≡ poly_mul_add_out (numbers n nbit bgbit l basebit t) a.now b.now out.old }
 {
     pack(product::poly_mul_add(numbers(n, nbit, bgbit, l, basebit, t), a, b, out))

@@ -3,15 +3,15 @@ ghost use Rattle.std.specs.Prelude.{◌≡◌, true, length, ◌+◌, ◌%◌};
 ghost use Rattle.ring.specs.Word.{Q, at};
 ghost use Rattle.ring.specs.Phase.{phase_of};
 ghost use Rattle.ring.specs.Bit.{bit_number};
-ghost use Rattle.params.specs.Refusal.{answer};
+ghost use Rattle.params.specs.Refusal.{answer, outcome, given};
 ghost use Rattle.params.specs.Published.{numbers};
 ghost use Rattle.blind_rotation.specs.Refusals.{vector_number, vector_out};
 ghost use Rattle.tables.specs.Refusals.{table_number, table_out, lookup_number, lookup_out};
 ghost use Rattle.table_drift.specs.Lookup.{message_brought, inside_margin, Carries};
 ghost use Rattle.table_drift.specs.Refusals.{lookup_drift_number, told_inside, result_after, drifts_after};
-ghost use Rattle.packing.specs.Packed.{packed, packed_with};
+ghost use Rattle.packing.specs.Packed.{packed, packed_value};
 
-use packing::{bit_number, numbers, pack, pack_with};
+use packing::{bit_number, numbers, pack, pack_value};
 
 // The test vector (a, b) of the table's modulus words.
 #[unsafe(no_mangle)]
@@ -27,7 +27,7 @@ pub extern "C" fn egl_table_testvec(
     a: &mut [u32],
     b: &mut [u32],
 ) -> u64
-    ensures said { result ≡ packed (answer (table_number (numbers n nbit bgbit l basebit t) modulus (length table.now) (length a.old) (length b.old))) }
+    ensures said { result ≡ packed (outcome (answer (table_number (numbers n nbit bgbit l basebit t) modulus (length table.now) (length a.old) (length b.old)))) }
     ensures first { a.new ≡ (table_out (numbers n nbit bgbit l basebit t) modulus table.now (record { a = a.old; b = b.old })).a }
     ensures second { b.new ≡ (table_out (numbers n nbit bgbit l basebit t) modulus table.now (record { a = a.old; b = b.old })).b }
 {
@@ -50,7 +50,7 @@ pub extern "C" fn egl_trgsw_blind_rotate_with_testvec(
     a: &mut [u32],
     b: &mut [u32],
 ) -> u64
-    ensures said { result ≡ packed (answer (vector_number (numbers n nbit bgbit l basebit t) (length src.now) (length va.now) (length vb.now) (length key.now) (length a.old) (length b.old))) }
+    ensures said { result ≡ packed (outcome (answer (vector_number (numbers n nbit bgbit l basebit t) (length src.now) (length va.now) (length vb.now) (length key.now) (length a.old) (length b.old)))) }
     ensures first { a.new ≡ (vector_out (numbers n nbit bgbit l basebit t) src.now (record { a = va.now; b = vb.now }) key.now (record { a = a.old; b = b.old })).a }
     ensures second { b.new ≡ (vector_out (numbers n nbit bgbit l basebit t) src.now (record { a = va.now; b = vb.now }) key.now (record { a = a.old; b = b.old })).b }
 {
@@ -81,7 +81,7 @@ pub extern "C" fn egl_lookup(
     bsk: &[u32],
     out: &mut [u32],
 ) -> u64
-    ensures said { result ≡ packed (answer (lookup_number (numbers n nbit bgbit l basebit t) modulus (length table.now) (length c.now) (length ksk.now) (length bsk.now) (length out.old))) }
+    ensures said { result ≡ packed (outcome (answer (lookup_number (numbers n nbit bgbit l basebit t) modulus (length table.now) (length c.now) (length ksk.now) (length bsk.now) (length out.old)))) }
     ensures written { out.new ≡ lookup_out (numbers n nbit bgbit l basebit t) modulus table.now c.now ksk.now bsk.now out.old }
 {
     pack(tables::lookup(
@@ -116,13 +116,13 @@ pub extern "C" fn egl_lookup_drift(
     out: &mut [u32],
     drifts: &mut [u32],
 ) -> u64
-    ensures said { result ≡ packed_with (answer (lookup_drift_number (numbers n nbit bgbit l basebit t) modulus (length table.now) results (length ksk.now) (length bsk.now) key.now z.now (length c.now) (length out.old) (length drifts.old))) (bit_number (told_inside (numbers n nbit bgbit l basebit t) modulus table.now results value ksk.now bsk.now key.now z.now c.now out.old drifts.old)) }
+    ensures said { result ≡ packed_value (given (answer (lookup_drift_number (numbers n nbit bgbit l basebit t) modulus (length table.now) results (length ksk.now) (length bsk.now) key.now z.now (length c.now) (length out.old) (length drifts.old))) (bit_number (told_inside (numbers n nbit bgbit l basebit t) modulus table.now results value ksk.now bsk.now key.now z.now c.now out.old drifts.old))) }
     ensures written { out.new ≡ result_after (numbers n nbit bgbit l basebit t) modulus table.now results ksk.now bsk.now key.now z.now c.now out.old drifts.old }
     ensures drifted { drifts.new ≡ drifts_after (numbers n nbit bgbit l basebit t) modulus table.now results value ksk.now bsk.now key.now z.now c.now out.old drifts.old }
     ensures carried { lookup_drift_number (numbers n nbit bgbit l basebit t) modulus (length table.now) results (length ksk.now) (length bsk.now) key.now z.now (length c.now) (length out.old) (length drifts.old) ≡ 0 → inside_margin modulus (message_brought (numbers n nbit bgbit l basebit t) key.now c.now value modulus) ≡ true → phase_of n key.now out.new ≡ (at table.now (value % modulus) + at drifts.new 1) % Q }
     ensures right { told_inside (numbers n nbit bgbit l basebit t) modulus table.now results value ksk.now bsk.now key.now z.now c.now out.old drifts.old ≡ true → Carries (numbers n nbit bgbit l basebit t) key.now modulus table.now results value out.new (at drifts.new 1) }
 {
-    let told = table_drift::lookup_drift(
+    pack_value(table_drift::lookup_drift(
         numbers(n, nbit, bgbit, l, basebit, t),
         modulus,
         table,
@@ -135,8 +135,5 @@ pub extern "C" fn egl_lookup_drift(
         c,
         out,
         drifts,
-    );
-    let answer = told.answer;
-    let inside = bit_number(told.inside);
-    pack_with(answer, inside)
+    ).map(bit_number))
 }

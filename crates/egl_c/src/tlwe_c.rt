@@ -1,7 +1,7 @@
 // Ciphertexts: sums and multiples, at both levels.
 ghost use Rattle.std.specs.Prelude.{◌≡◌, length};
 ghost use Rattle.ring.specs.Poly.{plus, minus, scale};
-ghost use Rattle.params.specs.Refusal.{answer, if_done};
+ghost use Rattle.params.specs.Refusal.{answer, outcome, if_done};
 ghost use Rattle.tlwe.specs.Level.{cipher_words};
 ghost use Rattle.tlwe.specs.Linear.{linear_number, negative};
 ghost use Rattle.tlwe.specs.declared.Level.TheVariants.{Zero, One};
@@ -24,7 +24,7 @@ pub extern "C" fn egl_tlwe_add_lv0(
     b: &[u32],
     out: &mut [u32],
 ) -> u64
-    ensures said { result ≡ packed (answer (linear_number (numbers n nbit bgbit l basebit t) Zero (length a.now) (length b.now) (length out.old))) }
+    ensures said { result ≡ packed (outcome (answer (linear_number (numbers n nbit bgbit l basebit t) Zero (length a.now) (length b.now) (length out.old)))) }
     ensures written { out.new ≡ if_done (linear_number (numbers n nbit bgbit l basebit t) Zero (length a.now) (length b.now) (length out.old)) (plus (cipher_words (numbers n nbit bgbit l basebit t) Zero) a.now b.now) out.old }
 {
     pack(tlwe::linear::add(
@@ -49,7 +49,7 @@ pub extern "C" fn egl_tlwe_add_lv1(
     b: &[u32],
     out: &mut [u32],
 ) -> u64
-    ensures said { result ≡ packed (answer (linear_number (numbers n nbit bgbit l basebit t) One (length a.now) (length b.now) (length out.old))) }
+    ensures said { result ≡ packed (outcome (answer (linear_number (numbers n nbit bgbit l basebit t) One (length a.now) (length b.now) (length out.old)))) }
     ensures written { out.new ≡ if_done (linear_number (numbers n nbit bgbit l basebit t) One (length a.now) (length b.now) (length out.old)) (plus (cipher_words (numbers n nbit bgbit l basebit t) One) a.now b.now) out.old }
 {
     pack(tlwe::linear::add(
@@ -74,7 +74,7 @@ pub extern "C" fn egl_tlwe_sub_lv0(
     b: &[u32],
     out: &mut [u32],
 ) -> u64
-    ensures said { result ≡ packed (answer (linear_number (numbers n nbit bgbit l basebit t) Zero (length a.now) (length b.now) (length out.old))) }
+    ensures said { result ≡ packed (outcome (answer (linear_number (numbers n nbit bgbit l basebit t) Zero (length a.now) (length b.now) (length out.old)))) }
     ensures written { out.new ≡ if_done (linear_number (numbers n nbit bgbit l basebit t) Zero (length a.now) (length b.now) (length out.old)) (minus (cipher_words (numbers n nbit bgbit l basebit t) Zero) a.now b.now) out.old }
 {
     pack(tlwe::linear::sub(
@@ -99,7 +99,7 @@ pub extern "C" fn egl_tlwe_sub_lv1(
     b: &[u32],
     out: &mut [u32],
 ) -> u64
-    ensures said { result ≡ packed (answer (linear_number (numbers n nbit bgbit l basebit t) One (length a.now) (length b.now) (length out.old))) }
+    ensures said { result ≡ packed (outcome (answer (linear_number (numbers n nbit bgbit l basebit t) One (length a.now) (length b.now) (length out.old)))) }
     ensures written { out.new ≡ if_done (linear_number (numbers n nbit bgbit l basebit t) One (length a.now) (length b.now) (length out.old)) (minus (cipher_words (numbers n nbit bgbit l basebit t) One) a.now b.now) out.old }
 {
     pack(tlwe::linear::sub(
@@ -123,7 +123,7 @@ pub extern "C" fn egl_tlwe_neg_lv0(
     a: &[u32],
     out: &mut [u32],
 ) -> u64
-    ensures said { result ≡ packed (answer (linear_number (numbers n nbit bgbit l basebit t) Zero (length a.now) (length a.now) (length out.old))) }
+    ensures said { result ≡ packed (outcome (answer (linear_number (numbers n nbit bgbit l basebit t) Zero (length a.now) (length a.now) (length out.old)))) }
     ensures written { out.new ≡ if_done (linear_number (numbers n nbit bgbit l basebit t) Zero (length a.now) (length a.now) (length out.old)) (negative (cipher_words (numbers n nbit bgbit l basebit t) Zero) a.now) out.old }
 {
     pack(tlwe::linear::neg(numbers(n, nbit, bgbit, l, basebit, t), Level::Zero, a, out))
@@ -141,7 +141,7 @@ pub extern "C" fn egl_tlwe_neg_lv1(
     a: &[u32],
     out: &mut [u32],
 ) -> u64
-    ensures said { result ≡ packed (answer (linear_number (numbers n nbit bgbit l basebit t) One (length a.now) (length a.now) (length out.old))) }
+    ensures said { result ≡ packed (outcome (answer (linear_number (numbers n nbit bgbit l basebit t) One (length a.now) (length a.now) (length out.old)))) }
     ensures written { out.new ≡ if_done (linear_number (numbers n nbit bgbit l basebit t) One (length a.now) (length a.now) (length out.old)) (negative (cipher_words (numbers n nbit bgbit l basebit t) One) a.now) out.old }
 {
     pack(tlwe::linear::neg(numbers(n, nbit, bgbit, l, basebit, t), Level::One, a, out))
@@ -161,7 +161,7 @@ pub extern "C" fn egl_tlwe_add_mul_lv0(
     multiplier: u32,
     out: &mut [u32],
 ) -> u64
-    ensures said { result ≡ packed (answer (linear_number (numbers n nbit bgbit l basebit t) Zero (length a.now) (length b.now) (length out.old))) }
+    ensures said { result ≡ packed (outcome (answer (linear_number (numbers n nbit bgbit l basebit t) Zero (length a.now) (length b.now) (length out.old)))) }
     ensures written { out.new ≡ if_done (linear_number (numbers n nbit bgbit l basebit t) Zero (length a.now) (length b.now) (length out.old)) (plus (cipher_words (numbers n nbit bgbit l basebit t) Zero) a.now (scale (cipher_words (numbers n nbit bgbit l basebit t) Zero) multiplier b.now)) out.old }
 {
     pack(tlwe::linear::add_mul(
@@ -188,7 +188,7 @@ pub extern "C" fn egl_tlwe_add_mul_lv1(
     multiplier: u32,
     out: &mut [u32],
 ) -> u64
-    ensures said { result ≡ packed (answer (linear_number (numbers n nbit bgbit l basebit t) One (length a.now) (length b.now) (length out.old))) }
+    ensures said { result ≡ packed (outcome (answer (linear_number (numbers n nbit bgbit l basebit t) One (length a.now) (length b.now) (length out.old)))) }
     ensures written { out.new ≡ if_done (linear_number (numbers n nbit bgbit l basebit t) One (length a.now) (length b.now) (length out.old)) (plus (cipher_words (numbers n nbit bgbit l basebit t) One) a.now (scale (cipher_words (numbers n nbit bgbit l basebit t) One) multiplier b.now)) out.old }
 {
     pack(tlwe::linear::add_mul(
@@ -215,7 +215,7 @@ pub extern "C" fn egl_tlwe_sub_mul_lv0(
     multiplier: u32,
     out: &mut [u32],
 ) -> u64
-    ensures said { result ≡ packed (answer (linear_number (numbers n nbit bgbit l basebit t) Zero (length a.now) (length b.now) (length out.old))) }
+    ensures said { result ≡ packed (outcome (answer (linear_number (numbers n nbit bgbit l basebit t) Zero (length a.now) (length b.now) (length out.old)))) }
     ensures written { out.new ≡ if_done (linear_number (numbers n nbit bgbit l basebit t) Zero (length a.now) (length b.now) (length out.old)) (minus (cipher_words (numbers n nbit bgbit l basebit t) Zero) a.now (scale (cipher_words (numbers n nbit bgbit l basebit t) Zero) multiplier b.now)) out.old }
 {
     pack(tlwe::linear::sub_mul(
@@ -242,7 +242,7 @@ pub extern "C" fn egl_tlwe_sub_mul_lv1(
     multiplier: u32,
     out: &mut [u32],
 ) -> u64
-    ensures said { result ≡ packed (answer (linear_number (numbers n nbit bgbit l basebit t) One (length a.now) (length b.now) (length out.old))) }
+    ensures said { result ≡ packed (outcome (answer (linear_number (numbers n nbit bgbit l basebit t) One (length a.now) (length b.now) (length out.old)))) }
     ensures written { out.new ≡ if_done (linear_number (numbers n nbit bgbit l basebit t) One (length a.now) (length b.now) (length out.old)) (minus (cipher_words (numbers n nbit bgbit l basebit t) One) a.now (scale (cipher_words (numbers n nbit bgbit l basebit t) One) multiplier b.now)) out.old }
 {
     pack(tlwe::linear::sub_mul(

@@ -1,17 +1,17 @@
 // Decryption of single words, at both levels.
 ghost use Rattle.std.specs.Prelude.{◌≡◌, length, false, ◌%◌};
 ghost use Rattle.ring.specs.Word.{Q};
-ghost use Rattle.params.specs.Refusal.{answer, if_done};
+ghost use Rattle.params.specs.Refusal.{answer, given};
 ghost use Rattle.tlwe.specs.Level.{dimension};
 ghost use Rattle.ring.specs.Phase.{phase_of};
 ghost use Rattle.tlwe.specs.Key.{keyed_number};
 ghost use Rattle.tlwe.specs.Decrypt.{bit_of, message_of, message_number};
 ghost use Rattle.tlwe.specs.declared.Level.TheVariants.{Zero, One};
-ghost use Rattle.packing.specs.Packed.{packed_with};
+ghost use Rattle.packing.specs.Packed.{packed_value};
 ghost use Rattle.params.specs.Published.{numbers};
 ghost use Rattle.ring.specs.Bit.{bit_number};
 
-use packing::{bit_number, low_word, numbers, pack_with};
+use packing::{bit_number, low_word, numbers, pack_value};
 use tlwe::Level;
 
 // The bit of a ciphertext at level 0, as the value: 1 when the phase, read as signed, is 0 or more.
@@ -26,17 +26,14 @@ pub extern "C" fn egl_tlwe_decrypt_bit_lv0(
     c: &[u32],
     key: &[u32],
 ) -> u64
-    ensures { result ≡ packed_with (answer (keyed_number (numbers n nbit bgbit l basebit t) Zero (length c.now) key.now)) (bit_number (if_done (keyed_number (numbers n nbit bgbit l basebit t) Zero (length c.now) key.now) (bit_of (phase_of (dimension (numbers n nbit bgbit l basebit t) Zero) key.now c.now)) false)) }
+    ensures { result ≡ packed_value (given (answer (keyed_number (numbers n nbit bgbit l basebit t) Zero (length c.now) key.now)) (bit_number (bit_of (phase_of (dimension (numbers n nbit bgbit l basebit t) Zero) key.now c.now)))) }
 {
-    let d = tlwe::decryption::decrypt_bit(
+    pack_value(tlwe::decryption::decrypt_bit(
         numbers(n, nbit, bgbit, l, basebit, t),
         Level::Zero,
         c,
         key,
-    );
-    let answer = d.answer;
-    let value = bit_number(d.value);
-    pack_with(answer, value)
+    ).map(bit_number))
 }
 
 // The message of a ciphertext at level 0, as the value. It is below 64, so the remainder cuts nothing.
@@ -52,18 +49,15 @@ pub extern "C" fn egl_tlwe_decrypt_message_lv0(
     c: &[u32],
     key: &[u32],
 ) -> u64
-    ensures { result ≡ packed_with (answer (message_number (numbers n nbit bgbit l basebit t) Zero modulus (length c.now) key.now)) (if_done (message_number (numbers n nbit bgbit l basebit t) Zero modulus (length c.now) key.now) (message_of modulus (phase_of (dimension (numbers n nbit bgbit l basebit t) Zero) key.now c.now)) 0 % Q) }
+    ensures { result ≡ packed_value (given (answer (message_number (numbers n nbit bgbit l basebit t) Zero modulus (length c.now) key.now)) ((message_of modulus (phase_of (dimension (numbers n nbit bgbit l basebit t) Zero) key.now c.now)) % Q)) }
 {
-    let d = tlwe::decryption::decrypt_message(
+    pack_value(tlwe::decryption::decrypt_message(
         numbers(n, nbit, bgbit, l, basebit, t),
         Level::Zero,
         modulus,
         c,
         key,
-    );
-    let answer = d.answer;
-    let value = low_word(d.value);
-    pack_with(answer, value)
+    ).map(low_word))
 }
 
 // The bit of a ciphertext at level 1, as the value: 1 when the phase, read as signed, is 0 or more.
@@ -78,17 +72,14 @@ pub extern "C" fn egl_tlwe_decrypt_bit_lv1(
     c: &[u32],
     key: &[u32],
 ) -> u64
-    ensures { result ≡ packed_with (answer (keyed_number (numbers n nbit bgbit l basebit t) One (length c.now) key.now)) (bit_number (if_done (keyed_number (numbers n nbit bgbit l basebit t) One (length c.now) key.now) (bit_of (phase_of (dimension (numbers n nbit bgbit l basebit t) One) key.now c.now)) false)) }
+    ensures { result ≡ packed_value (given (answer (keyed_number (numbers n nbit bgbit l basebit t) One (length c.now) key.now)) (bit_number (bit_of (phase_of (dimension (numbers n nbit bgbit l basebit t) One) key.now c.now)))) }
 {
-    let d = tlwe::decryption::decrypt_bit(
+    pack_value(tlwe::decryption::decrypt_bit(
         numbers(n, nbit, bgbit, l, basebit, t),
         Level::One,
         c,
         key,
-    );
-    let answer = d.answer;
-    let value = bit_number(d.value);
-    pack_with(answer, value)
+    ).map(bit_number))
 }
 
 // The message of a ciphertext at level 1, as the value. It is below 64, so the remainder cuts nothing.
@@ -104,16 +95,13 @@ pub extern "C" fn egl_tlwe_decrypt_message_lv1(
     c: &[u32],
     key: &[u32],
 ) -> u64
-    ensures { result ≡ packed_with (answer (message_number (numbers n nbit bgbit l basebit t) One modulus (length c.now) key.now)) (if_done (message_number (numbers n nbit bgbit l basebit t) One modulus (length c.now) key.now) (message_of modulus (phase_of (dimension (numbers n nbit bgbit l basebit t) One) key.now c.now)) 0 % Q) }
+    ensures { result ≡ packed_value (given (answer (message_number (numbers n nbit bgbit l basebit t) One modulus (length c.now) key.now)) ((message_of modulus (phase_of (dimension (numbers n nbit bgbit l basebit t) One) key.now c.now)) % Q)) }
 {
-    let d = tlwe::decryption::decrypt_message(
+    pack_value(tlwe::decryption::decrypt_message(
         numbers(n, nbit, bgbit, l, basebit, t),
         Level::One,
         modulus,
         c,
         key,
-    );
-    let answer = d.answer;
-    let value = low_word(d.value);
-    pack_with(answer, value)
+    ).map(low_word))
 }

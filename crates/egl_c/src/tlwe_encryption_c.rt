@@ -1,6 +1,6 @@
 // Encryption of single words, at both levels, with lent masks and noise.
 ghost use Rattle.std.specs.Prelude.{◌≡◌, length, false};
-ghost use Rattle.params.specs.Refusal.{answer, if_done};
+ghost use Rattle.params.specs.Refusal.{answer, outcome, if_done};
 ghost use Rattle.tlwe.specs.Level.{dimension};
 ghost use Rattle.tlwe.specs.Plain.{plain_word};
 ghost use Rattle.tlwe.specs.Encrypt.{encrypt_number, encrypted};
@@ -29,7 +29,7 @@ pub extern "C" fn egl_tlwe_encrypt_bit_lv0(
     key: &[u32],
     out: &mut [u32],
 ) -> u64
-    ensures said { result ≡ packed (answer (encrypt_number (numbers n nbit bgbit l basebit t) Zero (Bit (truth bit)) (length masks.now) key.now (length out.old))) }
+    ensures said { result ≡ packed (outcome (answer (encrypt_number (numbers n nbit bgbit l basebit t) Zero (Bit (truth bit)) (length masks.now) key.now (length out.old)))) }
     ensures written { out.new ≡ if_done (encrypt_number (numbers n nbit bgbit l basebit t) Zero (Bit (truth bit)) (length masks.now) key.now (length out.old)) (encrypted (dimension (numbers n nbit bgbit l basebit t) Zero) (plain_word (Bit (truth bit))) masks.now noise key.now) out.old }
 {
     pack(tlwe::encryption::encrypt(
@@ -58,7 +58,7 @@ pub extern "C" fn egl_tlwe_encrypt_bit_lv1(
     key: &[u32],
     out: &mut [u32],
 ) -> u64
-    ensures said { result ≡ packed (answer (encrypt_number (numbers n nbit bgbit l basebit t) One (Bit (truth bit)) (length masks.now) key.now (length out.old))) }
+    ensures said { result ≡ packed (outcome (answer (encrypt_number (numbers n nbit bgbit l basebit t) One (Bit (truth bit)) (length masks.now) key.now (length out.old)))) }
     ensures written { out.new ≡ if_done (encrypt_number (numbers n nbit bgbit l basebit t) One (Bit (truth bit)) (length masks.now) key.now (length out.old)) (encrypted (dimension (numbers n nbit bgbit l basebit t) One) (plain_word (Bit (truth bit))) masks.now noise key.now) out.old }
 {
     pack(tlwe::encryption::encrypt(
@@ -87,7 +87,7 @@ pub extern "C" fn egl_tlwe_encrypt_turn_lv0(
     key: &[u32],
     out: &mut [u32],
 ) -> u64
-    ensures said { result ≡ packed (answer (encrypt_number (numbers n nbit bgbit l basebit t) Zero (Turn turn) (length masks.now) key.now (length out.old))) }
+    ensures said { result ≡ packed (outcome (answer (encrypt_number (numbers n nbit bgbit l basebit t) Zero (Turn turn) (length masks.now) key.now (length out.old)))) }
     ensures written { out.new ≡ if_done (encrypt_number (numbers n nbit bgbit l basebit t) Zero (Turn turn) (length masks.now) key.now (length out.old)) (encrypted (dimension (numbers n nbit bgbit l basebit t) Zero) (plain_word (Turn turn)) masks.now noise key.now) out.old }
 {
     pack(tlwe::encryption::encrypt(
@@ -116,7 +116,7 @@ pub extern "C" fn egl_tlwe_encrypt_turn_lv1(
     key: &[u32],
     out: &mut [u32],
 ) -> u64
-    ensures said { result ≡ packed (answer (encrypt_number (numbers n nbit bgbit l basebit t) One (Turn turn) (length masks.now) key.now (length out.old))) }
+    ensures said { result ≡ packed (outcome (answer (encrypt_number (numbers n nbit bgbit l basebit t) One (Turn turn) (length masks.now) key.now (length out.old)))) }
     ensures written { out.new ≡ if_done (encrypt_number (numbers n nbit bgbit l basebit t) One (Turn turn) (length masks.now) key.now (length out.old)) (encrypted (dimension (numbers n nbit bgbit l basebit t) One) (plain_word (Turn turn)) masks.now noise key.now) out.old }
 {
     pack(tlwe::encryption::encrypt(
@@ -146,7 +146,7 @@ pub extern "C" fn egl_tlwe_encrypt_message_lv0(
     key: &[u32],
     out: &mut [u32],
 ) -> u64
-    ensures said { result ≡ packed (answer (encrypt_number (numbers n nbit bgbit l basebit t) Zero (Message value modulus) (length masks.now) key.now (length out.old))) }
+    ensures said { result ≡ packed (outcome (answer (encrypt_number (numbers n nbit bgbit l basebit t) Zero (Message value modulus) (length masks.now) key.now (length out.old)))) }
     ensures written { out.new ≡ if_done (encrypt_number (numbers n nbit bgbit l basebit t) Zero (Message value modulus) (length masks.now) key.now (length out.old)) (encrypted (dimension (numbers n nbit bgbit l basebit t) Zero) (plain_word (Message value modulus)) masks.now noise key.now) out.old }
 {
     pack(tlwe::encryption::encrypt(
@@ -176,7 +176,7 @@ pub extern "C" fn egl_tlwe_encrypt_message_lv1(
     key: &[u32],
     out: &mut [u32],
 ) -> u64
-    ensures said { result ≡ packed (answer (encrypt_number (numbers n nbit bgbit l basebit t) One (Message value modulus) (length masks.now) key.now (length out.old))) }
+    ensures said { result ≡ packed (outcome (answer (encrypt_number (numbers n nbit bgbit l basebit t) One (Message value modulus) (length masks.now) key.now (length out.old)))) }
     ensures written { out.new ≡ if_done (encrypt_number (numbers n nbit bgbit l basebit t) One (Message value modulus) (length masks.now) key.now (length out.old)) (encrypted (dimension (numbers n nbit bgbit l basebit t) One) (plain_word (Message value modulus)) masks.now noise key.now) out.old }
 {
     pack(tlwe::encryption::encrypt(

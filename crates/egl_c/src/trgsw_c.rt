@@ -1,9 +1,11 @@
 // src/trgsw.rs: decomposition, external product and `cmux`, rotations and their amounts, blind rotation and its step, key switching, the bootstrapping key.
-ghost use Rattle.std.specs.Prelude.{◌≡◌, length};
-ghost use Rattle.params.specs.Refusal.{answer, if_done};
+ghost use Rattle.std.specs.Prelude.{◌≡◌, Ok, eqb, length};
+ghost use Rattle.params.specs.Refusal.{answer, outcome, if_done, unless};
 ghost use Rattle.decomposition.specs.Pair.{decomposition_number, decomposition_out};
 ghost use Rattle.trgsw.specs.Refusals.{external_number, external_out, cmux_number, cmux_out};
-ghost use Rattle.packing.specs.Packed.{packed, packed_with};
+ghost use Rattle.packing.specs.Packed.{packed, packed_value};
+ghost use Rattle.params.specs.declared.refusal.Refusal.TheVariants.{Parameters};
+ghost use Rattle.params.specs.Ranges.{params_number};
 ghost use Rattle.params.specs.Published.{numbers};
 ghost use Rattle.params.specs.Sizes.{size};
 ghost use Rattle.ring.specs.Turn.{rotated};
@@ -14,7 +16,7 @@ ghost use Rattle.switching.specs.Switched.{switch_number, switched};
 ghost use Rattle.bootstrapping.specs.Rows.{torus_rows, bootstrapping_key};
 ghost use Rattle.bootstrapping.specs.Refusals.{torus_number, bootstrapping_number};
 
-use packing::{numbers, pack, pack_with};
+use packing::{numbers, pack, pack_value};
 use utils::{Amount, Torus};
 
 // The 2L digit polynomials of the pair (a, b), in order. Refusals: 1, 2.
@@ -30,7 +32,7 @@ pub extern "C" fn egl_trgsw_decomposition(
     b: &[u32],
     out: &mut [u32],
 ) -> u64
-    ensures said { result ≡ packed (answer (decomposition_number (numbers n nbit bgbit l basebit t) (length a.now) (length b.now) (length out.old))) }
+    ensures said { result ≡ packed (outcome (answer (decomposition_number (numbers n nbit bgbit l basebit t) (length a.now) (length b.now) (length out.old)))) }
     ensures written { out.new ≡ decomposition_out (numbers n nbit bgbit l basebit t) a.now b.now out.old }
 {
     pack(decomposition::decomposition(numbers(n, nbit, bgbit, l, basebit, t), a, b, out))
@@ -51,7 +53,7 @@ pub extern "C" fn egl_trgsw_external_product(
     outa: &mut [u32],
     outb: &mut [u32],
 ) -> u64
-    ensures said { result ≡ packed (answer (external_number (numbers n nbit bgbit l basebit t) (length rows.now) (length a.now) (length b.now) (length outa.old) (length outb.old))) }
+    ensures said { result ≡ packed (outcome (answer (external_number (numbers n nbit bgbit l basebit t) (length rows.now) (length a.now) (length b.now) (length outa.old) (length outb.old)))) }
     ensures first { outa.new ≡ (external_out (numbers n nbit bgbit l basebit t) rows.now (record { a = a.now; b = b.now }) (record { a = outa.old; b = outb.old })).a }
     ensures second { outb.new ≡ (external_out (numbers n nbit bgbit l basebit t) rows.now (record { a = a.now; b = b.now }) (record { a = outa.old; b = outb.old })).b }
 {
@@ -82,7 +84,7 @@ pub extern "C" fn egl_trgsw_cmux(
     outa: &mut [u32],
     outb: &mut [u32],
 ) -> u64
-    ensures said { result ≡ packed (answer (cmux_number (numbers n nbit bgbit l basebit t) (length a1.now) (length b1.now) (length a2.now) (length b2.now) (length rows.now) (length outa.old) (length outb.old))) }
+    ensures said { result ≡ packed (outcome (answer (cmux_number (numbers n nbit bgbit l basebit t) (length a1.now) (length b1.now) (length a2.now) (length b2.now) (length rows.now) (length outa.old) (length outb.old)))) }
     ensures first { outa.new ≡ (cmux_out (numbers n nbit bgbit l basebit t) rows.now (record { a = a1.now; b = b1.now }) (record { a = a2.now; b = b2.now }) (record { a = outa.old; b = outb.old })).a }
     ensures second { outb.new ≡ (cmux_out (numbers n nbit bgbit l basebit t) rows.now (record { a = a1.now; b = b1.now }) (record { a = a2.now; b = b2.now }) (record { a = outa.old; b = outb.old })).b }
 {
@@ -111,7 +113,7 @@ pub extern "C" fn egl_trgsw_poly_mul_with_x_k(
     k: u32,
     out: &mut [u32],
 ) -> u64
-    ensures said { result ≡ packed (answer (rotate_number (numbers n nbit bgbit l basebit t) (length a.now) (length out.old) k)) }
+    ensures said { result ≡ packed (outcome (answer (rotate_number (numbers n nbit bgbit l basebit t) (length a.now) (length out.old) k))) }
     ensures written { out.new ≡ if_done (rotate_number (numbers n nbit bgbit l basebit t) (length a.now) (length out.old) k) (rotated (size (numbers n nbit bgbit l basebit t)) k a.now) out.old }
 {
     pack(rotation::poly_mul_with_x_k(numbers(n, nbit, bgbit, l, basebit, t), a, Amount(k), out))
@@ -128,12 +130,9 @@ pub extern "C" fn egl_trgsw_mask_amount(
     t: u32,
     x: u32,
 ) -> u64
-    ensures { result ≡ packed_with (rounded_to (numbers n nbit bgbit l basebit t) (mask_amount (numbers n nbit bgbit l basebit t) x)).answer (rounded_to (numbers n nbit bgbit l basebit t) (mask_amount (numbers n nbit bgbit l basebit t) x)).amount.0 }
+    ensures { result ≡ packed_value (unless (eqb (params_number (numbers n nbit bgbit l basebit t)) 0) Parameters (Ok (mask_amount (numbers n nbit bgbit l basebit t) x))) }
 {
-    let r = rotation::mask_amount(numbers(n, nbit, bgbit, l, basebit, t), Torus(x));
-    let answer = r.answer;
-    let amount = r.amount;
-    pack_with(answer, amount.0)
+    pack_value(rotation::mask_amount(numbers(n, nbit, bgbit, l, basebit, t), Torus(x)).map(|k| k.0))
 }
 
 // The amount of the last word, b, in the high half: 2N less the steps nearest to it, from 0 to 2N. The sum does not wrap.
@@ -147,12 +146,9 @@ pub extern "C" fn egl_trgsw_body_amount(
     t: u32,
     b: u32,
 ) -> u64
-    ensures { result ≡ packed_with (rounded_to (numbers n nbit bgbit l basebit t) (body_amount (numbers n nbit bgbit l basebit t) b)).answer (rounded_to (numbers n nbit bgbit l basebit t) (body_amount (numbers n nbit bgbit l basebit t) b)).amount.0 }
+    ensures { result ≡ packed_value (unless (eqb (params_number (numbers n nbit bgbit l basebit t)) 0) Parameters (Ok (body_amount (numbers n nbit bgbit l basebit t) b))) }
 {
-    let r = rotation::body_amount(numbers(n, nbit, bgbit, l, basebit, t), Torus(b));
-    let answer = r.answer;
-    let amount = r.amount;
-    pack_with(answer, amount.0)
+    pack_value(rotation::body_amount(numbers(n, nbit, bgbit, l, basebit, t), Torus(b)).map(|k| k.0))
 }
 
 // Step i of the blind rotation, i below n, by the ciphertext's mask i: what it makes of the accumulator (a, b). Refusals: 1, 2, 3.
@@ -170,7 +166,7 @@ pub extern "C" fn egl_trgsw_blind_rotate_step(
     a: &mut [u32],
     b: &mut [u32],
 ) -> u64
-    ensures said { result ≡ packed (answer (step_number (numbers n nbit bgbit l basebit t) (length key.now) i (length a.old) (length b.old))) }
+    ensures said { result ≡ packed (outcome (answer (step_number (numbers n nbit bgbit l basebit t) (length key.now) i (length a.old) (length b.old)))) }
     ensures first { a.new ≡ (step_out (numbers n nbit bgbit l basebit t) key.now i mask (record { a = a.old; b = b.old })).a }
     ensures second { b.new ≡ (step_out (numbers n nbit bgbit l basebit t) key.now i mask (record { a = a.old; b = b.old })).b }
 {
@@ -198,7 +194,7 @@ pub extern "C" fn egl_trgsw_blind_rotate(
     a: &mut [u32],
     b: &mut [u32],
 ) -> u64
-    ensures said { result ≡ packed (answer (blind_number (numbers n nbit bgbit l basebit t) (length src.now) (length key.now) (length a.old) (length b.old))) }
+    ensures said { result ≡ packed (outcome (answer (blind_number (numbers n nbit bgbit l basebit t) (length src.now) (length key.now) (length a.old) (length b.old)))) }
     ensures first { a.new ≡ (blind_out (numbers n nbit bgbit l basebit t) src.now key.now (record { a = a.old; b = b.old })).a }
     ensures second { b.new ≡ (blind_out (numbers n nbit bgbit l basebit t) src.now key.now (record { a = a.old; b = b.old })).b }
 {
@@ -218,7 +214,7 @@ pub extern "C" fn egl_trgsw_identity_key_switching(
     ksk: &[u32],
     out: &mut [u32],
 ) -> u64
-    ensures said { result ≡ packed (answer (switch_number (numbers n nbit bgbit l basebit t) (length src.now) (length ksk.now) (length out.old))) }
+    ensures said { result ≡ packed (outcome (answer (switch_number (numbers n nbit bgbit l basebit t) (length src.now) (length ksk.now) (length out.old)))) }
     ensures written { out.new ≡ if_done (switch_number (numbers n nbit bgbit l basebit t) (length src.now) (length ksk.now) (length out.old)) (switched (numbers n nbit bgbit l basebit t) ksk.now src.now) out.old }
 {
     pack(switching::identity_key_switching(numbers(n, nbit, bgbit, l, basebit, t), src, ksk, out))
@@ -241,7 +237,7 @@ pub extern "C" fn egl_trgsw_encrypt_torus(
     key_lv1: &[u32],
     out: &mut [u32],
 ) -> u64
-    ensures said { result ≡ packed (answer (torus_number (numbers n nbit bgbit l basebit t) (length masks.now) (length noise.now) key_lv1.now (length out.old))) }
+    ensures said { result ≡ packed (outcome (answer (torus_number (numbers n nbit bgbit l basebit t) (length masks.now) (length noise.now) key_lv1.now (length out.old)))) }
     ensures written { out.new ≡ if_done (torus_number (numbers n nbit bgbit l basebit t) (length masks.now) (length noise.now) key_lv1.now (length out.old)) (torus_rows (numbers n nbit bgbit l basebit t) m key_lv1.now masks.now noise.now) out.old }
 {
     pack(bootstrapping::encrypt_torus(
@@ -269,7 +265,7 @@ pub extern "C" fn egl_trgsw_gen_bootstrapping_key(
     noise: &[u32],
     out: &mut [u32],
 ) -> u64
-    ensures said { result ≡ packed (answer (bootstrapping_number (numbers n nbit bgbit l basebit t) key_lv0.now key_lv1.now (length masks.now) (length noise.now) (length out.old))) }
+    ensures said { result ≡ packed (outcome (answer (bootstrapping_number (numbers n nbit bgbit l basebit t) key_lv0.now key_lv1.now (length masks.now) (length noise.now) (length out.old)))) }
     ensures written { out.new ≡ if_done (bootstrapping_number (numbers n nbit bgbit l basebit t) key_lv0.now key_lv1.now (length masks.now) (length noise.now) (length out.old)) (bootstrapping_key (numbers n nbit bgbit l basebit t) key_lv0.now key_lv1.now masks.now noise.now) out.old }
 {
     pack(bootstrapping::gen_bootstrapping_key(

@@ -1,6 +1,6 @@
 // Pairs of polynomials: encryption, decryption, extraction.
 ghost use Rattle.std.specs.Prelude.{◌≡◌, length};
-ghost use Rattle.params.specs.Refusal.{answer, if_done};
+ghost use Rattle.params.specs.Refusal.{answer, outcome, if_done};
 ghost use Rattle.params.specs.Sizes.{size};
 ghost use Rattle.utils.specs.Torus.{words_of_doubles};
 ghost use Rattle.trlwe.specs.Extract.{extract_number, extract_out};
@@ -27,7 +27,7 @@ pub extern "C" fn egl_trlwe_encrypt_f64(
     a: &mut [u32],
     b: &mut [u32],
 ) -> u64
-    ensures said { result ≡ packed (answer (encrypt_pair_number (numbers n nbit bgbit l basebit t) (length plain.now) (length masks.now) (length noise.now) key.now (length a.old) (length b.old))) }
+    ensures said { result ≡ packed (outcome (answer (encrypt_pair_number (numbers n nbit bgbit l basebit t) (length plain.now) (length masks.now) (length noise.now) key.now (length a.old) (length b.old)))) }
     ensures mask { a.new ≡ if_done (encrypt_pair_number (numbers n nbit bgbit l basebit t) (length plain.now) (length masks.now) (length noise.now) key.now (length a.old) (length b.old)) masks.now a.old }
     ensures body { b.new ≡ if_done (encrypt_pair_number (numbers n nbit bgbit l basebit t) (length plain.now) (length masks.now) (length noise.now) key.now (length a.old) (length b.old)) (fresh_body (size (numbers n nbit bgbit l basebit t)) (words_of_doubles plain.now) noise.now masks.now key.now) b.old }
 {
@@ -58,7 +58,7 @@ pub extern "C" fn egl_trlwe_encrypt_bool(
     a: &mut [u32],
     b: &mut [u32],
 ) -> u64
-    ensures said { result ≡ packed (answer (encrypt_pair_number (numbers n nbit bgbit l basebit t) (length plain.now) (length masks.now) (length noise.now) key.now (length a.old) (length b.old))) }
+    ensures said { result ≡ packed (outcome (answer (encrypt_pair_number (numbers n nbit bgbit l basebit t) (length plain.now) (length masks.now) (length noise.now) key.now (length a.old) (length b.old)))) }
     ensures mask { a.new ≡ if_done (encrypt_pair_number (numbers n nbit bgbit l basebit t) (length plain.now) (length masks.now) (length noise.now) key.now (length a.old) (length b.old)) masks.now a.old }
     ensures body { b.new ≡ if_done (encrypt_pair_number (numbers n nbit bgbit l basebit t) (length plain.now) (length masks.now) (length noise.now) key.now (length a.old) (length b.old)) (fresh_body (size (numbers n nbit bgbit l basebit t)) (words_of_bits plain.now) noise.now masks.now key.now) b.old }
 {
@@ -87,7 +87,7 @@ pub extern "C" fn egl_trlwe_decrypt_bool(
     key: &[u32],
     out: &mut [u8],
 ) -> u64
-    ensures said { result ≡ packed (answer (decrypt_pair_number (numbers n nbit bgbit l basebit t) (length a.now) (length b.now) key.now (length out.old))) }
+    ensures said { result ≡ packed (outcome (answer (decrypt_pair_number (numbers n nbit bgbit l basebit t) (length a.now) (length b.now) key.now (length out.old)))) }
     ensures written { out.new ≡ decrypt_out (numbers n nbit bgbit l basebit t) a.now b.now key.now out.old }
 {
     pack(trlwe::decrypt_bool(numbers(n, nbit, bgbit, l, basebit, t), a, b, key, out))
@@ -107,7 +107,7 @@ pub extern "C" fn egl_trlwe_sample_extract_index(
     k: usize,
     out: &mut [u32],
 ) -> u64
-    ensures said { result ≡ packed (answer (extract_number (numbers n nbit bgbit l basebit t) (length a.now) (length b.now) k (length out.old))) }
+    ensures said { result ≡ packed (outcome (answer (extract_number (numbers n nbit bgbit l basebit t) (length a.now) (length b.now) k (length out.old)))) }
     ensures written { out.new ≡ extract_out (numbers n nbit bgbit l basebit t) a.now b.now k out.old }
 {
     pack(trlwe::sample_extract_index(numbers(n, nbit, bgbit, l, basebit, t), a, b, k, out))

@@ -1,6 +1,6 @@
 // The gates that need no rotation.
 ghost use Rattle.std.specs.Prelude.{◌≡◌, ◌+◌, length};
-ghost use Rattle.params.specs.Refusal.{answer, if_done};
+ghost use Rattle.params.specs.Refusal.{answer, outcome, if_done};
 ghost use Rattle.tlwe.specs.Linear.{linear_number, negative};
 ghost use Rattle.tlwe.specs.declared.Level.TheVariants.{Zero};
 ghost use Rattle.gate_sums.specs.Sum.{constant_of, constant_number};
@@ -22,7 +22,7 @@ pub extern "C" fn egl_gates_not(
     a: &[u32],
     out: &mut [u32],
 ) -> u64
-    ensures said { result ≡ packed (answer (linear_number (numbers n nbit bgbit l basebit t) Zero (length a.now) (length a.now) (length out.old))) }
+    ensures said { result ≡ packed (outcome (answer (linear_number (numbers n nbit bgbit l basebit t) Zero (length a.now) (length a.now) (length out.old)))) }
     ensures written { out.new ≡ if_done (linear_number (numbers n nbit bgbit l basebit t) Zero (length a.now) (length a.now) (length out.old)) (negative ((numbers n nbit bgbit l basebit t).n + 1) a.now) out.old }
 {
     pack(gate_sums::wires::not(numbers(n, nbit, bgbit, l, basebit, t), a, out))
@@ -40,7 +40,7 @@ pub extern "C" fn egl_gates_copy(
     a: &[u32],
     out: &mut [u32],
 ) -> u64
-    ensures said { result ≡ packed (answer (linear_number (numbers n nbit bgbit l basebit t) Zero (length a.now) (length a.now) (length out.old))) }
+    ensures said { result ≡ packed (outcome (answer (linear_number (numbers n nbit bgbit l basebit t) Zero (length a.now) (length a.now) (length out.old)))) }
     ensures written { out.new ≡ if_done (linear_number (numbers n nbit bgbit l basebit t) Zero (length a.now) (length a.now) (length out.old)) a.now out.old }
 {
     pack(gate_sums::wires::copy(numbers(n, nbit, bgbit, l, basebit, t), a, out))
@@ -58,7 +58,7 @@ pub extern "C" fn egl_gates_constant(
     bit: u32,
     out: &mut [u32],
 ) -> u64
-    ensures said { result ≡ packed (answer (constant_number (numbers n nbit bgbit l basebit t) (length out.old))) }
+    ensures said { result ≡ packed (outcome (answer (constant_number (numbers n nbit bgbit l basebit t) (length out.old)))) }
     ensures written { out.new ≡ if_done (constant_number (numbers n nbit bgbit l basebit t) (length out.old)) (constant_of (numbers n nbit bgbit l basebit t) (truth bit)) out.old }
 {
     pack(gate_sums::wires::constant(numbers(n, nbit, bgbit, l, basebit, t), bit != 0, out))

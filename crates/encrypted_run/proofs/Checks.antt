@@ -9,7 +9,7 @@ use lib.Dec.{eqb}
 use Rattle.std.specs.Prelude.{Ok}
 use Rattle.params.specs.declared.refusal.Refusal.{Refusal}
 use Rattle.params.specs.declared.Params.{Params}
-use Rattle.params.specs.declared.Answer.{Answer}
+use Rattle.params.specs.Refusal.{Answer}
 use Rattle.params.specs.Refusal.{answer, given, unless, Outcome, done as finished}
 use Rattle.params.specs.Sizes.{switching_words, bootstrapping_words}
 use Rattle.params.proofs.Answers.{when_done, given_ok, given_done}

@@ -14,7 +14,7 @@ use lib.Dec.{lit<}
 use lib.ListN.{length, take, drop, length-append, length-drop}
 use Rattle.ring.specs.Lists.{part}
 use Rattle.params.specs.declared.Params.{Params}
-use Rattle.params.specs.declared.Answer.{Answer}
+use Rattle.params.specs.Refusal.{Answer}
 use Rattle.params.proofs.Answers.{when_done}
 use Rattle.ring.proofs.Joins.{joined-part}
 use Rattle.kinds.specs.Kinds.{kind_of}

@@ -12,7 +12,7 @@ use lib.Seq.{take_at, drop_at}
 use Rattle.ring.specs.Sums.{sum_to}
 use Rattle.std.specs.Prelude.{Ok}
 use Rattle.params.specs.declared.Params.{Params}
-use Rattle.params.specs.declared.Answer.{Answer}
+use Rattle.params.specs.Refusal.{Answer}
 use Rattle.params.proofs.Answers.{given_done}
 use Rattle.samples.specs.Sample.{rotated_sample}
 use Rattle.kinds.specs.Kinds.{kind_of}

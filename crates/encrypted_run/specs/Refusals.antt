@@ -1,7 +1,7 @@
 -- The refusals of an encrypted run and of one gate of it (01, 'Refusal numbers'): 1, 2 for what does not depend on the circuit, 6 to 10, 2 for the rest.
 use Rattle.std.specs.Prelude.{List, [], ◌∷◌, ℕ, ◌+◌, ◌*◌}
 use Rattle.params.specs.declared.Params.{Params}
-use Rattle.params.specs.declared.Answer.{Answer}
+use Rattle.params.specs.Refusal.{Answer}
 use Rattle.params.specs.Refusal.{answer}
 use Rattle.params.specs.Sizes.{switching_words, bootstrapping_words}
 use Rattle.refusals.specs.Table.{is, first_of, refusal_by}

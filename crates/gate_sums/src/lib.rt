@@ -42,8 +42,8 @@ pub struct Weights {
 // An eighth of a turn.
 const EIGHTH: u32 = 0x2000_0000;
 
-#[tactic(auto, using(crate::proofs::Sums::as_word))]
 // A row of the table: so many times a and b and so many eighths of a turn.
+#[tactic(auto, using(crate::proofs::Sums::as_word))]
 fn row(a: i32, b: i32, eighths: i32) -> Weights
     ensures { result ≡ record { a = word_of a; b = word_of b; added = word_of eighths * eighth % Q } }
 {
@@ -54,8 +54,8 @@ fn row(a: i32, b: i32, eighths: i32) -> Weights
     }
 }
 
-#[tactic(auto, unfolding(crate::specs::Weights::weights_of))]
 /// The table's row of a kind, in words.
+#[tactic(auto, unfolding(crate::specs::Weights::weights_of))]
 pub fn weights_of(kind: Kind) -> Weights
     ensures { result ≡ weights_of kind }
 {

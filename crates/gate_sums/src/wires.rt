@@ -18,8 +18,8 @@ pub fn not(p: Params, a: &[u32], out: &mut [u32]) -> Result<(), Refusal>
     tlwe::linear::neg(p, Level::Zero, a, out)
 }
 
-#[tactic(auto, unfolding(tlwe::specs::Linear::linear_number))]
 /// A copy of a ciphertext. Refusals: 1, 2.
+#[tactic(auto, unfolding(tlwe::specs::Linear::linear_number))]
 pub fn copy(p: Params, a: &[u32], out: &mut [u32]) -> Result<(), Refusal>
     ensures said { result ≡ outcome (answer (linear_number p Zero (length a.now) (length a.now) (length out.old))) }
     ensures written { out.new ≡ if_done (linear_number p Zero (length a.now) (length a.now) (length out.old)) a.now out.old }
@@ -31,8 +31,8 @@ pub fn copy(p: Params, a: &[u32], out: &mut [u32]) -> Result<(), Refusal>
     Ok(())
 }
 
-#[tactic(auto, unfolding(ring::specs::Word::Q))]
 // The last word of a constant. False is 1 - 2^29, wrapping, and not -2^29.
+#[tactic(auto, unfolding(ring::specs::Word::Q))]
 fn constant_word(value: bool) -> u32
     ensures { result ≡ constant_word value }
 {
@@ -49,8 +49,8 @@ fn constant_into(c: u32, out: &mut [u32])
     out[last] = c;
 }
 
-#[tactic(auto, unfolding(crate::specs::Sum::constant_number, crate::specs::Sum::constant_of))]
 /// A ciphertext of a known bit, which any key decrypts. Refusals: 1, 2.
+#[tactic(auto, unfolding(crate::specs::Sum::constant_number, crate::specs::Sum::constant_of))]
 pub fn constant(p: Params, value: bool, out: &mut [u32]) -> Result<(), Refusal>
     ensures said { result ≡ outcome (answer (constant_number p (length out.old))) }
     ensures written { out.new ≡ if_done (constant_number p (length out.old)) (constant_of p value) out.old }

@@ -8,8 +8,8 @@ ghost use Rattle.gates.specs.Gate.{gate_out};
 use gate_sums::Kind;
 use params::{Checked, Params, Refusal};
 
-#[tactic(auto, unfolding(crate::specs::Refusals::gate_number))]
 // The checks of a two-input gate.
+#[tactic(auto, unfolding(crate::specs::Refusals::gate_number))]
 fn gate_checks(
     p: Params,
     a: &[u32],

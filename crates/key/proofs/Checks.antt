@@ -10,7 +10,7 @@ use Rattle.std.specs.Prelude.{Ok}
 use lib.ListN.{length, take, drop}
 use Rattle.ring.proofs.Parts.{slice_part}
 use Rattle.params.specs.declared.Params.{Params}
-use Rattle.params.specs.declared.Answer.{Answer}
+use Rattle.params.specs.Refusal.{Answer}
 use Rattle.params.specs.Refusal.{check, answer, given, if_done}
 use Rattle.params.specs.Ranges.{params_number, InRange}
 use Rattle.params.specs.Sizes.{size, base, bit_words, switching_words, bootstrapping_words}

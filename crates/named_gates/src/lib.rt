@@ -161,8 +161,8 @@ pub fn xnor(
     gates::gate(p, Kind::Xnor, a, b, ksk, bsk, out)
 }
 
-#[tactic(auto, unfolding(gates::specs::Refusals::mux_number))]
 // The checks of `mux` and `mux_naive`.
+#[tactic(auto, unfolding(gates::specs::Refusals::mux_number))]
 fn mux_checks(
     p: Params,
     a: &[u32],

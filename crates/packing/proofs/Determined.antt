@@ -3,42 +3,22 @@
 use Rattle.ring.proofs.Outcomes.{Determined, said}
 use Rattle.packing.proofs.numbers as numbers
 use Rattle.packing.specs.contracts.numbers as numbers_c
-use Rattle.packing.proofs.pack as pack
-use Rattle.packing.specs.contracts.pack as pack_c
-use Rattle.packing.proofs.pack_with as pack_with
-use Rattle.packing.specs.contracts.pack_with as pack_with_c
-use Rattle.packing.proofs.pack_told as pack_told
-use Rattle.packing.specs.contracts.pack_told as pack_told_c
 use Rattle.packing.proofs.capped as capped
 use Rattle.packing.specs.contracts.capped as capped_c
-use Rattle.packing.proofs.pack_text as pack_text
-use Rattle.packing.specs.contracts.pack_text as pack_text_c
 use Rattle.packing.proofs.bit_number as bit_number_call
 use Rattle.packing.specs.contracts.bit_number as bit_number_c
 use Rattle.packing.proofs.low_word as low_word
 use Rattle.packing.specs.contracts.low_word as low_word_c
-use Rattle.packing.proofs.pack_outcome as pack_outcome
-use Rattle.packing.specs.contracts.pack_outcome as pack_outcome_c
+use Rattle.packing.proofs.pack as pack
+use Rattle.packing.specs.contracts.pack as pack_c
 use Rattle.packing.proofs.pack_value as pack_value
 use Rattle.packing.specs.contracts.pack_value as pack_value_c
 
 pub numbers_determined : Determined numbers_c.ended numbers.Reads.Learnt
 numbers_determined κs a x y v w = said
 
-pub pack_determined : Determined pack_c.ended pack.Reads.Learnt
-pack_determined κs a x y v w = said
-
-pub pack_with_determined : Determined pack_with_c.ended pack_with.Reads.Learnt
-pack_with_determined κs a x y v w = said
-
-pub pack_told_determined : Determined pack_told_c.ended pack_told.Reads.Learnt
-pack_told_determined κs a x y v w = said
-
 pub capped_determined : Determined capped_c.ended capped.Reads.Learnt
 capped_determined κs a x y v w = said
-
-pub pack_text_determined : Determined pack_text_c.ended pack_text.Reads.Learnt
-pack_text_determined κs a x y v w = said
 
 pub bit_number_determined : Determined bit_number_c.ended bit_number_call.Reads.Learnt
 bit_number_determined κs a x y v w = said
@@ -46,8 +26,8 @@ bit_number_determined κs a x y v w = said
 pub low_word_determined : Determined low_word_c.ended low_word.Reads.Learnt
 low_word_determined κs a x y v w = said
 
-pub pack_outcome_determined : Determined pack_outcome_c.ended pack_outcome.Reads.Learnt
-pack_outcome_determined κs a x y v w = said
+pub pack_determined : Determined pack_c.ended pack.Reads.Learnt
+pack_determined κs a x y v w = said
 
 pub pack_value_determined : Determined pack_value_c.ended pack_value.Reads.Learnt
 pack_value_determined κs a x y v w = said

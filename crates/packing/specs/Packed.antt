@@ -1,30 +1,13 @@
 -- How an answer crosses into C: one number of 64 bits.
 use Rattle.std.specs.Prelude.{cond, ℕ, ◌+◌, ◌*◌, ltb, Result, Ok, Err}
 use Rattle.ring.specs.Word.{Q}
-use Rattle.params.specs.declared.Answer.{Answer}
 use Rattle.params.specs.declared.refusal.Refusal.{Refusal}
 use Rattle.params.specs.declared.refusal.Refusal.TheVariants.{Parameters, Length, Index, KeyWord, Modulus, Mark, Version, Count, Gate, Output, Text, Limit, Wires}
-use Rattle.params.specs.Refusal.{if_done, Outcome, number}
-
--- The number in the low half, the place in the high half.
-unfoldable pub packed : Answer → ℕ
-packed a = a.number + a.place * Q
-
--- The number in the low half and a value beside the answer in the high half: for answers that have no place.
-unfoldable pub packed_with : Answer → ℕ → ℕ
-packed_with a value = a.number + value * Q
-
--- The value beside an answer that is done, and the place beside a refusal.
-abbrev pub packed_told : Answer → ℕ → ℕ
-packed_told a value = if_done a.number (packed_with a value) (packed a)
+use Rattle.params.specs.Refusal.{Outcome, number}
 
 -- A place or a length of any size as 32 bits tell it: 2^32 - 1 stands for itself and for all above it.
 unfoldable pub capped : ℕ → ℕ
 capped v = cond (ltb v 4294967295) v 4294967295
-
--- For answers whose place or length is that of a text of any size: the number in the low half; in the high half the length where done, the place where refused.
-unfoldable pub packed_text : ℕ → ℕ → ℕ → ℕ
-packed_text number place length = packed_told (record { number = number; place = capped place }) (capped length)
 
 -- A refusal's place as 32 bits tell it: that of a text may be of any size.
 abbrev pub place_told : Refusal → ℕ
@@ -48,9 +31,9 @@ packed_value (Ok v) = v * Q
 packed_value (Err r) = number r + place_told r * Q
 
 -- An outcome without one: 0 where the call did its work.
-abbrev pub packed_outcome : Outcome → ℕ
-packed_outcome (Ok v) = 0
-packed_outcome (Err r) = packed_value (Err r)
+abbrev pub packed : Outcome → ℕ
+packed (Ok v) = 0
+packed (Err r) = packed_value (Err r)
 
 -- The version of the interface: one more with each release in which a function of it is added, taken away or changed.
 abbrev pub interface_version : ℕ

@@ -4,11 +4,11 @@ ghost use Rattle.std.specs.Prelude.{◌≡◌, ◌%◌, Err};
 ghost use Rattle.params.specs.Published.{numbers};
 ghost use Rattle.ring.specs.Bit.{bit_number};
 ghost use Rattle.ring.specs.Word.{Q};
-ghost use Rattle.packing.specs.Packed.{packed, packed_with, packed_told, capped, packed_text, place_told, packed_outcome, packed_value};
+ghost use Rattle.packing.specs.Packed.{packed, capped, place_told, packed_value};
 
-use params::{Answer, Params, Refusal};
+use params::{Params, Refusal};
 
-// The record of the six numbers, which C hands over one by one.
+/// The record of the six numbers, which C hands over one by one.
 pub fn numbers(n: u32, nbit: u32, bgbit: u32, l: u32, basebit: u32, t: u32) -> Params
     ensures { result ≡ numbers n nbit bgbit l basebit t }
 {
@@ -22,46 +22,12 @@ pub fn numbers(n: u32, nbit: u32, bgbit: u32, l: u32, basebit: u32, t: u32) -> P
     }
 }
 
-// The answer in one number: the refusal's number in the low half, the place in the high half.
-pub fn pack(a: Answer) -> u64
-    ensures { result ≡ packed a }
-{
-    (a.number as u64) + (a.place as u64) * 0x1_0000_0000
-}
-
-// An answer that has no place and a number beside it: the number stands in the high half.
-pub fn pack_with(a: Answer, value: u32) -> u64
-    ensures { result ≡ packed_with a value }
-{
-    (a.number as u64) + (value as u64) * 0x1_0000_0000
-}
-
-// An answer that has its place where it refuses, and else a number beside it.
-pub fn pack_told(a: Answer, value: u32) -> u64
-    ensures { result ≡ packed_told a value }
-{
-    if a.number != 0 {
-        return pack(a);
-    }
-    pack_with(a, value)
-}
-
-// A place or a length of any size as 32 bits tell it.
+/// A place or a length of any size as 32 bits tell it.
+#[tactic(auto, unfolding(crate::specs::Packed::capped))]
 pub fn capped(v: usize) -> u32
     ensures { result ≡ capped v }
 {
-    if v < 4294967295 {
-        return v as u32;
-    }
-    4294967295
-}
-
-// An answer of a routine on texts: its length where it is done, its place where it refuses.
-pub fn pack_text(number: u32, place: usize, length: usize) -> u64
-    ensures { result ≡ packed_text number place length }
-{
-    let place = capped(place);
-    pack_told(Answer { number, place }, capped(length))
+    if v < 4294967295 { v as u32 } else { 4294967295 }
 }
 
 // A refusal's place as 32 bits tell it.
@@ -85,8 +51,8 @@ fn pack_refusal(refusal: Refusal) -> u64
 }
 
 /// An outcome without a value: 0 where the call did its work.
-pub fn pack_outcome(outcome: Result<(), Refusal>) -> u64
-    ensures { result ≡ packed_outcome outcome }
+pub fn pack(outcome: Result<(), Refusal>) -> u64
+    ensures { result ≡ packed outcome }
 {
     match outcome {
         Ok(()) => 0,
@@ -94,8 +60,8 @@ pub fn pack_outcome(outcome: Result<(), Refusal>) -> u64
     }
 }
 
-#[tactic(auto, unfolding(ring::specs::Word::Q))]
 /// An outcome with a value: it stands in the high half where the call did its work.
+#[tactic(auto, unfolding(ring::specs::Word::Q))]
 pub fn pack_value(outcome: Result<u32, Refusal>) -> u64
     ensures { result ≡ packed_value outcome }
 {
@@ -105,17 +71,14 @@ pub fn pack_value(outcome: Result<u32, Refusal>) -> u64
     }
 }
 
-// A bit as a number.
+/// A bit as a number.
 pub fn bit_number(b: bool) -> u32
     ensures { result ≡ bit_number b }
 {
-    if b {
-        return 1;
-    }
-    0
+    u32::from(b)
 }
 
-// The low 32 bits.
+/// The low 32 bits.
 pub fn low_word(x: u64) -> u32
     ensures { result ≡ x % Q }
 {

@@ -7,7 +7,7 @@ use native.Mathlib.Omega.{arith}
 use borrow.Author.Tests.{eq-eqb, ne_eqb, eqb-true}
 use lib.Dec.{eqb}
 use Rattle.std.specs.Prelude.{Ok, Err}
-use Rattle.params.specs.declared.Answer.{Answer}
+use Rattle.params.specs.Refusal.{Answer}
 use Rattle.params.specs.declared.refusal.Refusal.{Refusal}
 use Rattle.params.specs.declared.refusal.Refusal.TheVariants.{Parameters, Length, Index, KeyWord, Modulus, Mark, Version, Count, Gate, Output, Text, Limit, Wires}
 use Rattle.params.specs.Refusal.{check, if_done, number, place, refusal_at, given}

@@ -1,10 +1,6 @@
 -- Two outcomes that a contract of this crate allows coincide: of the contract itself, as `rattle` reads it from the code, for every public routine (01, 'What the contracts owe').
 -- Assumes nothing.
 use Rattle.ring.proofs.Outcomes.{Determined, said}
-use Rattle.params.proofs.number as number
-use Rattle.params.specs.contracts.number as number_c
-use Rattle.params.proofs.check_answer as check_answer
-use Rattle.params.specs.contracts.check_answer as check_answer_c
 use Rattle.params.proofs.checks.check as check
 use Rattle.params.specs.contracts.checks.check as check_c
 use Rattle.params.proofs.refusal.Refusal.number as refusal_number
@@ -13,8 +9,6 @@ use Rattle.params.proofs.refusal.Refusal.place as refusal_place
 use Rattle.params.specs.contracts.refusal.Refusal.place as refusal_place_c
 use Rattle.params.proofs.refusal.Refusal.unless as refusal_unless
 use Rattle.params.specs.contracts.refusal.Refusal.unless as refusal_unless_c
-use Rattle.params.proofs.sizes_of as sizes_of_call
-use Rattle.params.specs.contracts.sizes_of as sizes_of_c
 use Rattle.params.proofs.published.security_80_bit as security_80_bit
 use Rattle.params.specs.contracts.published.security_80_bit as security_80_bit_c
 use Rattle.params.proofs.published.security_110_bit as security_110_bit
@@ -38,12 +32,6 @@ use Rattle.params.specs.contracts.published.uint7 as uint7_c
 use Rattle.params.proofs.published.uint8 as uint8
 use Rattle.params.specs.contracts.published.uint8 as uint8_c
 
-pub number_determined : Determined number_c.ended number.Reads.Learnt
-number_determined κs a x y v w = said
-
-pub check_answer_determined : Determined check_answer_c.ended check_answer.Reads.Learnt
-check_answer_determined κs a x y v w = said
-
 pub check_determined : Determined check_c.ended check.Reads.Learnt
 check_determined κs a x y v w = said
 
@@ -55,9 +43,6 @@ refusal_place_determined κs a x y v w = said
 
 pub refusal_unless_determined : Determined refusal_unless_c.ended refusal_unless.Reads.Learnt
 refusal_unless_determined κs a x y v w = said
-
-pub sizes_of_determined : Determined sizes_of_c.ended sizes_of_call.Reads.Learnt
-sizes_of_determined κs a x y v w = said
 
 pub security_80_bit_determined : Determined security_80_bit_c.ended security_80_bit.Reads.Learnt
 security_80_bit_determined κs a x y v w = said

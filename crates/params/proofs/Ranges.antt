@@ -12,7 +12,7 @@ use lib.Dec.{lit<, leb}
 use lib.Pow.{pow_mono, pow_pos}
 use Rattle.params.specs.declared.Params.{Params}
 use Rattle.params.specs.Ranges.{params_number, InRange}
-use Rattle.params.specs.Sizes.{size, base, sizes_of, sizes_in}
+use Rattle.params.specs.Sizes.{size, base}
 use Rattle.params.specs.Refusal.{check}
 use Rattle.params.specs.Private.{fits}
 use Rattle.params.proofs.Answers.{passed}
@@ -163,18 +163,3 @@ small N B t l n h_n h_b ht hl hn =
 -- the lengths at parameters in range, at once
 pub sizes_small : (p : Params) → InRange p → Small (size p) (base p) p.t p.l p.n
 sizes_small p r = small (size p) (base p) p.t p.l p.n (size_to p r) (base_to p r) (t_to p r) (l_to p r) r.n_to
-
--- ---- the record of lengths
-
-pub sizes_good : (p : Params) → params_number p ≡ 0 → sizes_of p ≡ sizes_in p
-unfolding sizes_of
-sizes_good p e = rw (eq-eqb (params_number p) 0 e)
-
--- the record's number is the refusal: 0 or 1 either way
-pub sizes_number : (p : Params) → (sizes_of p).number ≡ 0 → params_number p ≡ 0
-unfolding sizes_of
-sizes_number p = go (ℕ_discrete (params_number p) 0)
-  where
-    go : Dec (params_number p ≡ 0) → (sizes_of p).number ≡ 0 → params_number p ≡ 0
-    go (yes e) h = e
-    go (no n) h = absurd (let z : ◌≡◌ {A = ℕ} 1 0 = rw (ne_eqb (params_number p) 0 n) at h in omega arith)

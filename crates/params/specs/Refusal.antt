@@ -1,6 +1,5 @@
 -- The refusal table of document 01 ('Refusal numbers'): how a routine's answer is put together, and what a lent slice holds after it.
 use Rattle.std.specs.Prelude.{Bool, true, false, cond, ℕ, eqb, Result, Ok, Err}
-use Rattle.params.specs.declared.Answer.{Answer}
 use Rattle.params.specs.declared.refusal.Refusal.{Refusal}
 use Rattle.params.specs.declared.refusal.Refusal.TheVariants.{Parameters, Length, Index, KeyWord, Modulus, Mark, Version, Count, Gate, Output, Text, Limit, Wires}
 
@@ -8,6 +7,11 @@ use Rattle.params.specs.declared.refusal.Refusal.TheVariants.{Parameters, Length
 abbrev pub check : Bool → ℕ → ℕ → ℕ
 check true number rest = rest
 check false number rest = number
+
+-- An answer by document 01: the refusal's number, 0 where the call did its work, and the place in a circuit or a text that it speaks of, else 0.
+pub record Answer : Type 0 where
+  pub number : ℕ
+  pub place : ℕ
 
 -- The answer of a call whose refusals have no place in a circuit: its place is 0 (01: 'for 6 to 10 the first byte of the field at fault, else 0').
 abbrev pub answer : ℕ → Answer

@@ -29,14 +29,14 @@ fn switching_fits(p: Params) -> bool
 
 // All six are.
 #[tactic(auto, unfolding(crate::specs::Private::fits))]
-pub(crate) fn fits(p: Params) -> bool
+fn fits(p: Params) -> bool
     ensures { result ≡ fits p }
 {
     sizes_fit(p) && gadget_fits(p) && switching_fits(p)
 }
 
 // The lengths, the parameters being in range.
-pub(crate) fn sizes_in(p: Params) -> Sizes
+fn sizes_in(p: Params) -> Sizes
     requires { InRange p }
     ensures { result ≡ sizes_in p }
 {
@@ -49,7 +49,6 @@ pub(crate) fn sizes_in(p: Params) -> Sizes
     let bitmasks = rows * size;
     let switching = fields * (base - 1);
     Sizes {
-        number: 0,
         n,
         size,
         level0: n + 1,

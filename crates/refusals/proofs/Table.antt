@@ -1,4 +1,4 @@
--- Out of a table of refusals and back, once for every routine: the code's chain comes to the table's number, a number 0 tells what every check asks, and such facts give 0.
+-- Out of a table of refusals and back, once for every routine: a number 0 tells what every check asks, and such facts give 0.
 -- Assumes nothing.
 use mathlib.Core.Bool.{Bool, true, false, ◌&&◌}
 use mathlib.Core.List.{List, [], ◌∷◌, ◌++◌}
@@ -8,14 +8,11 @@ use native.Mathlib.Omega.{arith}
 use borrow.Author.Tests.{ltb-true, lt-ltb, eqb-true, eqb-false, eq-eqb, leb-true, le-leb}
 use lib.Dec.{eqb, ltb}
 use Rattle.params.specs.declared.Params.{Params}
-use Rattle.params.specs.declared.Sizes.{Sizes}
 use Rattle.params.specs.Refusal.{check}
 use Rattle.params.specs.Ranges.{params_number}
-use Rattle.params.specs.Sizes.{sizes_in, sizes_of}
-use Rattle.params.proofs.Answers.{passed, when_refused}
-use Rattle.params.proofs.Ranges.{sizes_good}
+use Rattle.params.proofs.Answers.{passed}
 use Rattle.refusals.specs.Table.{Check, is, at_most, below, holds, first_of, refusal_by}
-use Rattle.refusals.specs.Private.{passes, number_of, Fact, Facts, chain}
+use Rattle.refusals.specs.Private.{passes, number_of, Fact, Facts}
 
 -- the numbers of a table are not 0, which computes
 abbrev pub numbered : List Check → Bool
@@ -35,38 +32,6 @@ first_of_lem (is x y n) cs = refl
 first_of_lem (at_most x y n) cs = refl
 first_of_lem (below x y n) cs = refl
 first_of_lem (holds b n) cs = refl
-
--- ---- the code's chain
-
--- once it is not 0 it stays
-chain_kept : (m : ℕ) (cs : List Check) → (m ≡ 0 → ⊥) → chain m cs ≡ m
-chain_kept m [] h = refl
-chain_kept m (c ∷ cs) h = ap (λ (n : ℕ). chain n cs) (when_refused m (check (passes c) (number_of c) 0) m h) ∙ chain_kept m cs h
-
-chain_step : (b : Bool) (m : ℕ) (cs : List Check) → 0 < m → chain 0 cs ≡ first_of cs → chain (check b m 0) cs ≡ check b m (first_of cs)
-chain_step true m cs h e = e
-chain_step false m cs h e = chain_kept m cs (λ z. omega arith)
-
--- from 0 it comes to the number of the first check that fails
-pub chain_first : (cs : List Check) → numbered cs ≡ true → chain 0 cs ≡ first_of cs
-chain_first [] n = refl
-chain_first (c ∷ cs) n =
-    let m = both _ _ n in
-    chain_step (passes c) (number_of c) cs (ltb-true _ _ m.0) (chain_first cs m.1) ∙ sym (first_of_lem c cs)
-
--- the lengths of parameters out of range
-abbrev refused_sizes : Sizes
-refused_sizes = record { number = 1; n = 0; size = 0; level0 = 0; level1 = 0; ksk = 0; kskmasks = 0; ksknoise = 0; bit = 0; bsk = 0; bitmasks = 0; bskmasks = 0 }
-
-module _ (p : Params) (checks : Sizes → List Check) (n : numbered (checks (sizes_in p)) ≡ true) where
-  -- the routine's own chain, over the lengths that `sizes_of` gives, comes to the routine's number
-  pub chained : {s : Sizes} → s ≡ sizes_of p → chain s.number (checks s) ≡ refusal_by p (checks (sizes_in p))
-  unfolding sizes_of
-  chained {s} e = go (eqb (params_number p) 0) refl
-    where
-      go : (b : Bool) → eqb (params_number p) 0 ≡ b → chain s.number (checks s) ≡ refusal_by p (checks (sizes_in p))
-      go true t = ap (λ (r : Sizes). chain r.number (checks r)) (e ∙ sizes_good p (eqb-true _ _ t)) ∙ chain_first (checks (sizes_in p)) n ∙ rw t
-      go false t = ap (λ (r : Sizes). chain r.number (checks r)) (e ∙ when_refused (params_number p) (sizes_in p) refused_sizes (eqb-false _ _ t)) ∙ chain_kept 1 (checks refused_sizes) (λ z. omega arith) ∙ rw t
 
 -- ---- what a number 0 tells
 

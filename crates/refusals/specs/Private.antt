@@ -1,6 +1,6 @@
--- What only code and proofs need of a table of refusals: the facts that its checks tell, and the chain that the code makes of it.
+-- What only proofs need of a table of refusals: the facts that its checks tell.
 use Rattle.std.specs.Prelude.{Bool, true, List, [], ◌∷◌, ◌≡◌, ℕ, ◌≤◌, ◌<◌, eqb, leb, ltb}
-use Rattle.refusals.specs.Table.{Check, is, at_most, below, holds, also}
+use Rattle.refusals.specs.Table.{Check, is, at_most, below, holds}
 
 -- Does a check pass?
 abbrev pub passes : Check → Bool
@@ -27,8 +27,3 @@ Fact (holds test number) = test ≡ true
 abbrev pub Facts : List Check → Type 0
 Facts [] = Unit {0}
 Facts (c ∷ cs) = Fact c × Facts cs
-
--- The checks one after the other, from the number so far.
-abbrev pub chain : ℕ → List Check → ℕ
-chain number [] = number
-chain number (c ∷ cs) = chain (also number (passes c) (number_of c)) cs

@@ -22,7 +22,3 @@ first_of (holds test number ∷ cs) = check test number (first_of cs)
 -- A routine's number: 1 where the parameters are out of range, else that of its checks.
 abbrev pub refusal_by : Params → List Check → ℕ
 refusal_by p checks = check (eqb (params_number p) 0) 1 (first_of checks)
-
--- The step of the code, `refusals::also`: the number so far where it is not 0, else that of one more test.
-abbrev pub also : ℕ → Bool → ℕ → ℕ
-also number test refusal = cond (eqb number 0) (check test refusal 0) number

@@ -16,9 +16,7 @@ fn set_0() -> Params {
 
 fn key_decomposition_offset(rt: &impl Print) -> io::Result<()> {
     let r = key::decomposition_offset(set_0());
-    let answer = r.answer;
-    let value = r.value;
-    show::word(rt, "key_decomposition_offset", answer, value.0)
+    show::value(rt, "key_decomposition_offset", r.map(|x| u64::from(x.0)))
 }
 
 fn key_gen_testvec(rt: &impl Print) -> io::Result<()> {

@@ -23,16 +23,12 @@ fn trgsw_poly_mul_with_x_k(rt: &impl Print) -> io::Result<()> {
 
 fn trgsw_mask_amount(rt: &impl Print) -> io::Result<()> {
     let r = rotation::mask_amount(set_0(), utils::Torus(0xa327c956));
-    let answer = r.answer;
-    let amount = r.amount;
-    show::word(rt, "trgsw_mask_amount", answer, amount.0)
+    show::value(rt, "trgsw_mask_amount", r.map(|x| u64::from(x.0)))
 }
 
 fn trgsw_body_amount(rt: &impl Print) -> io::Result<()> {
     let r = rotation::body_amount(set_0(), utils::Torus(0xdfffffff));
-    let answer = r.answer;
-    let amount = r.amount;
-    show::word(rt, "trgsw_body_amount", answer, amount.0)
+    show::value(rt, "trgsw_body_amount", r.map(|x| u64::from(x.0)))
 }
 
 pub fn run(rt: &impl Print) -> io::Result<()> {

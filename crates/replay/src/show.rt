@@ -1,16 +1,16 @@
 // What a case prints: a line with the routine, the refusal's number, and the words of each slice that it was lent to write, or the value beside the answer.
-use params::{Answer, Params};
+use params::{Params, Refusal};
 use std::io;
 
 // The routine, the number and the words of one slice.
-pub fn words(rt: &impl Print, name: &str, r: Answer, s: &[u32]) -> io::Result<()> {
+pub fn words(rt: &impl Print, name: &str, r: Result<(), Refusal>, s: &[u32]) -> io::Result<()> {
     answer(rt, name, r)?;
     all_words(rt, s)?;
     end(rt)
 }
 
 // The same of two slices.
-pub fn pair(rt: &impl Print, name: &str, r: Answer, a: &[u32], b: &[u32]) -> io::Result<()> {
+pub fn pair(rt: &impl Print, name: &str, r: Result<(), Refusal>, a: &[u32], b: &[u32]) -> io::Result<()> {
     answer(rt, name, r)?;
     all_words(rt, a)?;
     all_words(rt, b)?;
@@ -18,25 +18,16 @@ pub fn pair(rt: &impl Print, name: &str, r: Answer, a: &[u32], b: &[u32]) -> io:
 }
 
 // The same of a slice of bytes.
-pub fn bytes(rt: &impl Print, name: &str, r: Answer, s: &[u8]) -> io::Result<()> {
+pub fn bytes(rt: &impl Print, name: &str, r: Result<(), Refusal>, s: &[u8]) -> io::Result<()> {
     answer(rt, name, r)?;
     all_bytes(rt, s)?;
     end(rt)
 }
 
-// The routine, the number and a word.
-pub fn word(rt: &impl Print, name: &str, r: Answer, x: u32) -> io::Result<()> {
-    wide(rt, name, r, u64::from(x))
-}
-
-// The same of a bit.
-pub fn bit(rt: &impl Print, name: &str, r: Answer, b: bool) -> io::Result<()> {
-    wide(rt, name, r, u64::from(b))
-}
-
-// The same of the low half of a number of 64 bits.
-pub fn wide(rt: &impl Print, name: &str, r: Answer, x: u64) -> io::Result<()> {
-    answer(rt, name, r)?;
+// The routine, the number, and the low half of the value, 0 where there is none.
+pub fn value(rt: &impl Print, name: &str, r: Result<u64, Refusal>) -> io::Result<()> {
+    let x = r.unwrap_or(0);
+    answer(rt, name, r.map(|_| ()))?;
     bar(rt)?;
     hex(rt, x % 0x1_0000_0000)?;
     end(rt)
@@ -54,10 +45,14 @@ pub fn set(rt: &impl Print, name: &str, p: Params) -> io::Result<()> {
     row(rt, name, &[p.n, p.nbit, p.bgbit, p.l, p.basebit, p.t])
 }
 
-// The routine and the number.
-fn answer(rt: &impl Print, name: &str, r: Answer) -> io::Result<()> {
+// The routine and the number, 0 where the call did its work.
+fn answer(rt: &impl Print, name: &str, r: Result<(), Refusal>) -> io::Result<()> {
+    let number = match r {
+        Ok(()) => 0,
+        Err(refusal) => refusal.number(),
+    };
     print!(rt; "{name}")?;
-    hex(rt, u64::from(r.number))
+    hex(rt, u64::from(number))
 }
 
 // What stands before each slice.

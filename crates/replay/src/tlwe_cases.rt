@@ -108,16 +108,14 @@ fn tlwe_decrypt_bit_lv0(rt: &impl Print) -> io::Result<()> {
     let c: [u32; 5] = [0xffffffff, 0xffffffff, 0xffffffff, 0xffffffff, 0xffffffff];
     let key: [u32; 4] = [0x1, 0x1, 0x0, 0x1];
     let r = tlwe::decryption::decrypt_bit(set_0(), tlwe::Level::Zero, &c, &key);
-    let answer = r.answer;
-    show::bit(rt, "tlwe_decrypt_bit_lv0", answer, r.value)
+    show::value(rt, "tlwe_decrypt_bit_lv0", r.map(u64::from))
 }
 
 fn tlwe_decrypt_message_lv1(rt: &impl Print) -> io::Result<()> {
     let c: [u32; 5] = [0x23df2e5e, 0x9f8368f5, 0xdea11291, 0x32defc3f, 0x5d2e21f7];
     let key: [u32; 4] = [0x1, 0x1, 0x1, 0x1];
     let r = tlwe::decryption::decrypt_message(set_0(), tlwe::Level::One, 0x20, &c, &key);
-    let answer = r.answer;
-    show::wide(rt, "tlwe_decrypt_message_lv1", answer, r.value)
+    show::value(rt, "tlwe_decrypt_message_lv1", r)
 }
 
 pub fn run(rt: &impl Print) -> io::Result<()> {

@@ -13,7 +13,7 @@ use lib.Dec.{T, lit<, ltb, ltb→lt}
 use lib.ListN.{length, take, drop, length-append}
 use lib.Seq.{take_at}
 use Rattle.std.specs.Prelude.{Ok}
-use Rattle.params.specs.declared.Answer.{Answer}
+use Rattle.params.specs.Refusal.{Answer}
 use Rattle.params.specs.Refusal.{answer}
 use Rattle.circuit.specs.Form.{inputs, gates, outputs, wires, gate_place, output_place, output_at, longest, or_else, first, output_answer, answer_of, gate_fields, head_fields, FieldCheck, asks, first_at}
 use Rattle.circuit.specs.Private.{gate_answer, head_answer, refusal}

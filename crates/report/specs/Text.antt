@@ -2,7 +2,7 @@
 use Rattle.std.specs.Prelude.{Result, List, [], ◌∷◌, ◌++◌, ℕ, zero, suc, ◌/◌, ◌%◌, ◌^◌, leb, length, drop, cond}
 use Rattle.ring.specs.Word.{at}
 use Rattle.ring.specs.Sums.{tab}
-use Rattle.params.specs.declared.Answer.{Answer}
+use Rattle.params.specs.Refusal.{Answer}
 use Rattle.params.specs.declared.refusal.Refusal.{Refusal}
 use Rattle.params.specs.Refusal.{check, answer, if_done, given}
 use Rattle.circuit.specs.Form.{version, inputs, gates, outputs, answer_of}

@@ -10,8 +10,8 @@ use text::put;
 mod lines;
 mod text;
 
-#[tactic(auto, unfolding(crate::specs::Text::describe_number, crate::specs::Text::describe_out))]
 /// The text of a circuit's bytes, into the front of a lent slice, and its length. A refused circuit has a text too. Refusal 2 where the slice is shorter than the text.
+#[tactic(auto, unfolding(crate::specs::Text::describe_number, crate::specs::Text::describe_out))]
 pub fn describe(bytes: &[u8], out: &mut [u8]) -> Result<usize, Refusal>
     ensures said { result ≡ describe_answer bytes.now (length out.old) }
     ensures written { out.new ≡ describe_out bytes.now out.old }

@@ -17,8 +17,8 @@ pub fn fits(n: usize, modulus: u64) -> bool
     tlwe::plaintexts::modulus_number(modulus).is_ok() && n as u64 % (2 * modulus) == 0
 }
 
-#[tactic(auto, unfolding(crate::specs::Refusals::table_number))]
 // The checks of a test vector.
+#[tactic(auto, unfolding(crate::specs::Refusals::table_number))]
 fn table_checks(
     p: Params,
     modulus: u64,
@@ -53,8 +53,8 @@ pub fn table_testvec(
     Ok(())
 }
 
-#[tactic(auto, unfolding(crate::specs::Refusals::lookup_number))]
 // The checks of a lookup.
+#[tactic(auto, unfolding(crate::specs::Refusals::lookup_number))]
 fn lookup_checks(
     p: Params,
     modulus: u64,

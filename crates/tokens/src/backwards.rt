@@ -40,8 +40,8 @@ fn back_end(text: &[u8], s: usize) -> usize
     0
 }
 
-#[tactic(auto, unfolding(crate::specs::Back::back_of))]
 /// The token that ends at e: where it begins, and where the one before it ends.
+#[tactic(auto, unfolding(crate::specs::Back::back_of))]
 pub fn back(text: &[u8], e: usize) -> Behind
     ensures { result ≡ back_of text.now e }
 {

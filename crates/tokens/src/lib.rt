@@ -87,16 +87,16 @@ fn word(text: &[u8], start: usize) -> Token
     ended(start, start.max(text.len()), v)
 }
 
-#[tactic(auto, unfolding(crate::specs::Tokens::word_of, crate::specs::Tokens::end_of, crate::specs::Tokens::token_at, crate::specs::Private::word_at))]
 /// The next token from this place on.
+#[tactic(auto, unfolding(crate::specs::Tokens::word_of, crate::specs::Tokens::end_of, crate::specs::Tokens::token_at, crate::specs::Private::word_at))]
 pub fn next(text: &[u8], at: usize) -> Token
     ensures { result ≡ token_at text.now at }
 {
     word(text, begin(text, at))
 }
 
-#[tactic(auto, using(crate::proofs::Laws::past_none, crate::proofs::Reading::read_on))]
 /// The place after so many tokens from this place on.
+#[tactic(auto, using(crate::proofs::Laws::past_none, crate::proofs::Reading::read_on))]
 pub fn skip(text: &[u8], at: usize, count: usize) -> usize
     ensures { result ≡ past text.now at count }
 {
@@ -141,8 +141,8 @@ fn spelled(w: &[u8]) -> usize
     0
 }
 
-#[tactic(auto, using(crate::proofs::Names::ends_later, crate::proofs::Names::ends_within, crate::proofs::Names::named_none, crate::proofs::Names::named_some))]
 /// The name of the next token from this place on, with its place and its end. Where there is none, the place may lie past the text.
+#[tactic(auto, using(crate::proofs::Names::ends_later, crate::proofs::Names::ends_within, crate::proofs::Names::named_none, crate::proofs::Names::named_some))]
 pub fn name(text: &[u8], at: usize) -> Token
     ensures { result ≡ name_token_at text.now at }
 {

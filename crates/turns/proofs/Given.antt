@@ -7,7 +7,7 @@ use Rattle.std.specs.Prelude.{Result, Ok, Err, IsOk}
 use Rattle.std.specs.Result.{result_unwrap_or}
 use borrow.Author.Tests.{eqb-true}
 use Rattle.params.specs.declared.Params.{Params}
-use Rattle.params.specs.declared.Answer.{Answer}
+use Rattle.params.specs.Refusal.{Answer}
 use Rattle.params.specs.declared.refusal.Refusal.{Refusal}
 use Rattle.params.specs.declared.refusal.Refusal.TheVariants.{Parameters}
 use Rattle.params.specs.Refusal.{given, refusal_at, unless}

@@ -51,8 +51,8 @@ fn place_of(p: Checked, key: &[u32], src: &[u32]) -> u32
     (turn - turned) % turn
 }
 
-#[tactic(auto, unfolding(tlwe::specs::Key::keyed_number))]
 /// What the turns of a rotation by src tell, key being the secret key of level 0. What rounding brings in is the rounded phase less the phase. Refusals: 1, 2, 4.
+#[tactic(auto, unfolding(tlwe::specs::Key::keyed_number))]
 pub fn front(p: Params, key: &[u32], src: &[u32]) -> Result<Rounded, Refusal>
     ensures { result ≡ given (answer (keyed_number p Zero (length src.now) key.now)) (record { place = front_place p key.now src.now; rounding = record { 0 = front_rounding p key.now src.now } }) }
 {

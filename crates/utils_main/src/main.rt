@@ -5,6 +5,7 @@
 
 mod list;
 
+use params::Refusal;
 use std::io;
 
 // A space and a word, in hexadecimal.
@@ -78,10 +79,12 @@ fn contents(rt: &impl Print, out: &[u32]) -> io::Result<()> {
     Ok(())
 }
 
-// A line: the answer's number and place, and what the slice holds.
-fn slice(rt: &impl Print, a: params::Answer, out: &[u32]) -> io::Result<()> {
-    let number = a.number;
-    let place = a.place;
+// A line: the refusal's number and place, both 0 where there is none, and what the slice holds.
+fn slice(rt: &impl Print, outcome: Result<(), Refusal>, out: &[u32]) -> io::Result<()> {
+    let (number, place) = match outcome {
+        Ok(()) => (0, 0),
+        Err(refusal) => (refusal.number(), refusal.place()),
+    };
     print!(rt; "{number} {place}")?;
     contents(rt, out)?;
     println!(rt)

@@ -4,7 +4,7 @@ use mathlib.Core.Path.{ap, ◌∙◌}
 use mathlib.Core.List.{List}
 use Prim.Native.Nat.{ℕ}
 use lib.ListN.{length}
-use Rattle.params.specs.declared.Answer.{Answer}
+use Rattle.params.specs.Refusal.{Answer}
 use Rattle.params.proofs.Ranges.{not_refused}
 use Rattle.encrypted_run.proofs.Checks.{step_done}
 use Rattle.turns.proofs.Given.{is_given}

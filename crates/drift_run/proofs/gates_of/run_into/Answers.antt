@@ -3,7 +3,7 @@
 use mathlib.Core.Path.{ap, ◌∙◌}
 use lib.ListN.{length}
 use Rattle.encrypted_run.proofs.Laws.{wires_written, outputs_written}
-use Rattle.params.specs.declared.Answer.{Answer}
+use Rattle.params.specs.Refusal.{Answer}
 use Rattle.params.proofs.Ranges.{not_refused}
 use Rattle.encrypted_run.proofs.Checks.{run_done}
 use Rattle.turns.proofs.Given.{is_given}
