@@ -5,9 +5,8 @@ use mathlib.Core.Path.{◌≡◌, refl, ◌∙◌}
 use mathlib.Core.Bool.{Bool, true, false, cond, ◌&&◌}
 use Prim.Native.Nat.{ℕ, ◌+◌, ◌-◌, ◌*◌, ◌≤◌, ◌<◌}
 use native.Mathlib.Nat.{mul-le-mul, le-mul_of_pos_right}
-use native.Mathlib.Decide.{ℕ_discrete}
 use native.Mathlib.Omega.{arith}
-use borrow.Author.Tests.{leb-true, le-leb, eq-eqb, ne_eqb}
+use borrow.Author.Tests.{leb-true, le-leb}
 use lib.Dec.{lit<, leb}
 use lib.Pow.{pow_mono, pow_pos}
 use Rattle.params.specs.declared.Params.{Params}

@@ -1,5 +1,5 @@
 -- The refusals of a routine as a list of checks, in the order of document 01's table ('Refusal numbers').
-use Rattle.std.specs.Prelude.{Bool, cond, List, [], ◌∷◌, ℕ, eqb, leb, ltb}
+use Rattle.std.specs.Prelude.{Bool, List, [], ◌∷◌, ℕ, eqb, leb, ltb}
 use Rattle.params.specs.declared.Params.{Params}
 use Rattle.params.specs.Refusal.{check}
 use Rattle.params.specs.Ranges.{params_number}
