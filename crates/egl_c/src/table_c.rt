@@ -7,7 +7,7 @@ ghost use Rattle.params.specs.Refusal.{answer, outcome, given};
 ghost use Rattle.params.specs.Published.{numbers};
 ghost use Rattle.blind_rotation.specs.Refusals.{vector_number, vector_out};
 ghost use Rattle.tables.specs.Refusals.{table_number, table_out, lookup_number, lookup_out};
-ghost use Rattle.table_drift.specs.Lookup.{message_brought, inside_margin, Carries};
+ghost use Rattle.table_drift.specs.Lookup.{message_brought, inside_margin, Carries, both_inside};
 ghost use Rattle.table_drift.specs.Refusals.{lookup_drift_number, told_inside, result_after, drifts_after};
 ghost use Rattle.packing.specs.Packed.{packed, packed_value};
 
@@ -116,7 +116,7 @@ pub extern "C" fn egl_lookup_drift(
     out: &mut [u32],
     drifts: &mut [u32],
 ) -> u64
-    ensures said { result ≡ packed_value (given (answer (lookup_drift_number (numbers n nbit bgbit l basebit t) modulus (length table.now) results (length ksk.now) (length bsk.now) key.now z.now (length c.now) (length out.old) (length drifts.old))) (bit_number (told_inside (numbers n nbit bgbit l basebit t) modulus table.now results value ksk.now bsk.now key.now z.now c.now out.old drifts.old))) }
+    ensures said { result ≡ packed_value (given (answer (lookup_drift_number (numbers n nbit bgbit l basebit t) modulus (length table.now) results (length ksk.now) (length bsk.now) key.now z.now (length c.now) (length out.old) (length drifts.old))) (bit_number (both_inside (numbers n nbit bgbit l basebit t) key.now z.now ksk.now bsk.now modulus table.now results value c.now))) }
     ensures written { out.new ≡ result_after (numbers n nbit bgbit l basebit t) modulus table.now results ksk.now bsk.now key.now z.now c.now out.old drifts.old }
     ensures drifted { drifts.new ≡ drifts_after (numbers n nbit bgbit l basebit t) modulus table.now results value ksk.now bsk.now key.now z.now c.now out.old drifts.old }
     ensures carried { lookup_drift_number (numbers n nbit bgbit l basebit t) modulus (length table.now) results (length ksk.now) (length bsk.now) key.now z.now (length c.now) (length out.old) (length drifts.old) ≡ 0 → inside_margin modulus (message_brought (numbers n nbit bgbit l basebit t) key.now c.now value modulus) ≡ true → phase_of n key.now out.new ≡ (at table.now (value % modulus) + at drifts.new 1) % Q }

@@ -1,10 +1,13 @@
 -- What crosses into C of an answer: its number in the low half, and its place in the high half.
 -- Assumes nothing.
-use mathlib.Core.Path.{◌≡◌, refl}
+use mathlib.Core.Bool.{Bool, true, false, cond}
+use mathlib.Core.Path.{◌≡◌, refl, ap}
 use Prim.Native.Nat.{ℕ, zero, suc, ◌+◌, ◌*◌, ◌≤◌}
 use native.Mathlib.Omega.{arith}
 use Rattle.ring.specs.Word.{Q}
-use Rattle.params.specs.Refusal.{answer, outcome}
+use lib.Dec.{eqb}
+use Rattle.std.specs.Prelude.{Ok, Err}
+use Rattle.params.specs.Refusal.{Answer, answer, outcome, given, if_done, refusal_at}
 use Rattle.packing.specs.Packed.{packed}
 
 -- refusals without a place: the number alone, and 0 where the call did its work
@@ -31,3 +34,11 @@ pub packed_place : (at : ℕ) → (packed (outcome (record { number = 8; place =
     × (packed (outcome (record { number = 9; place = at })) ≡ 9 + at * Q)
     × (packed (outcome (record { number = 10; place = at })) ≡ 10 + at * Q)
 packed_place at = (refl, refl, refl)
+
+-- a bit that is told true only where the number is 0 is the one that is handed back
+pub told_true : (a : Answer) (b : Bool) → if_done a.number b false ≡ true → given a b ≡ Ok true
+told_true a b e = go (eqb a.number 0) e
+  where
+    go : (t : Bool) → cond t b false ≡ true → cond t (Ok b) (Err (refusal_at a.number a.place)) ≡ Ok true
+    go true e = ap Ok e
+    go false e = absurd cc

@@ -3,6 +3,7 @@
 use Rattle.std.proofs.Common.{◌+◌, ◌*◌, ◌≤◌, length, ◌∙◌}
 use native.Mathlib.Omega.{arith}
 use Rattle.params.specs.Sizes.{switching_rows}
+use Rattle.params.proofs.Ranges.{sizes_small}
 use Rattle.key.specs.Switching.{carried}
 use Rattle.key.specs.Generation.{row_outer, row_field, row_digit}
 use Rattle.key.proofs.Places.{outer_below}
@@ -22,6 +23,14 @@ unfolding row_field
 carried_word-word-requires c =
     let b = c.base_of-digits.ensures in
     rw (c.p.view_is, b.value) (field_fits c.args.p c.args.r b.in_range)
+
+pub overflow_add-from : goal.overflow_add-from
+overflow_add-from c =
+    let g = c.args in
+    let d = sized c.p.view_is c.p.invariant in
+    let ends : g.r * c.p.inside.sizes.n + c.p.inside.sizes.n ≤ switching_rows g.p * g.p.n = rw d.masks (row_ends g.r (switching_rows g.p) g.p.n c.requires.row) in
+    let most = (sizes_small g.p d.range).masks in
+    omega (arith, ends, most)
 
 pub offset_bounds-masks-from : goal.offset_bounds-masks-from
 offset_bounds-masks-from c =
