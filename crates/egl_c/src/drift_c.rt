@@ -39,7 +39,9 @@ pub extern "C" fn egl_fresh_drift(
 ) -> u64
     ensures { result ≡ packed_value (given (answer (keyed_number (numbers n nbit bgbit l basebit t) Zero (length c.now) key.now)) (word_of (fresh_drift (numbers n nbit bgbit l basebit t) key.now c.now (truth bit)))) }
 {
-    pack_value(drift_run::fresh_drift(numbers(n, nbit, bgbit, l, basebit, t), key, c, bit != 0).map(|drift| drift.0))
+    pack_value(drift_run::fresh_drift(numbers(n, nbit, bgbit, l, basebit, t), key, c, bit != 0).map(
+        |drift| drift.0,
+    ))
 }
 
 // Gate g of a drift run; the value is what is largest, in absolute value, of the drifts brought into its rotations.
@@ -74,7 +76,8 @@ pub extern "C" fn egl_drift_gate(
         g,
         wires,
         drifts,
-    ).map(|brought| brought.worst.0))
+    )
+    .map(|brought| brought.worst.0))
 }
 
 // A drift run; the value is 1 where all that demand 3 names are inside, else 0.
@@ -115,5 +118,6 @@ pub extern "C" fn egl_drift_run(
         wires,
         out,
         drifts,
-    ).map(bit_number))
+    )
+    .map(bit_number))
 }

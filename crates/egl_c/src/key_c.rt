@@ -25,7 +25,9 @@ pub extern "C" fn egl_key_decomposition_offset(
 ) -> u64
     ensures { result ≡ packed_value (given (answer (params_number (numbers n nbit bgbit l basebit t))) (offset (numbers n nbit bgbit l basebit t))) }
 {
-    pack_value(key::decomposition_offset(numbers(n, nbit, bgbit, l, basebit, t)).map(|offset| offset.0))
+    pack_value(key::decomposition_offset(numbers(n, nbit, bgbit, l, basebit, t)).map(
+        |offset| offset.0,
+    ))
 }
 
 // `gen_testvec`: a zero, b an eighth of a turn in every word. Refusals: 1, 2.

@@ -135,5 +135,6 @@ pub extern "C" fn egl_lookup_drift(
         c,
         out,
         drifts,
-    ).map(bit_number))
+    )
+    .map(bit_number))
 }

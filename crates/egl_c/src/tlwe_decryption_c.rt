@@ -57,7 +57,8 @@ pub extern "C" fn egl_tlwe_decrypt_message_lv0(
         modulus,
         c,
         key,
-    ).map(low_word))
+    )
+    .map(low_word))
 }
 
 // The bit of a ciphertext at level 1, as the value: 1 when the phase, read as signed, is 0 or more.
@@ -103,5 +104,6 @@ pub extern "C" fn egl_tlwe_decrypt_message_lv1(
         modulus,
         c,
         key,
-    ).map(low_word))
+    )
+    .map(low_word))
 }

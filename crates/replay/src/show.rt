@@ -10,7 +10,13 @@ pub fn words(rt: &impl Print, name: &str, r: Result<(), Refusal>, s: &[u32]) -> 
 }
 
 // The same of two slices.
-pub fn pair(rt: &impl Print, name: &str, r: Result<(), Refusal>, a: &[u32], b: &[u32]) -> io::Result<()> {
+pub fn pair(
+    rt: &impl Print,
+    name: &str,
+    r: Result<(), Refusal>,
+    a: &[u32],
+    b: &[u32],
+) -> io::Result<()> {
     answer(rt, name, r)?;
     all_words(rt, a)?;
     all_words(rt, b)?;

@@ -7,4 +7,4 @@ use Rattle.egl_c.proofs.drift_c.egl_drift_run.Goals as goal
 
 pub returns-clause-right : goal.returns-clause-right
 unfolding inside_after
-returns-clause-right c = λ e. c.drift_run.ensures.right (c.drift_run.ensures.said ∙ told_true _ _ e)
+returns-clause-right c = λ e. (rw c.numbers.ensures at c.drift_run.ensures.right) ((rw c.numbers.ensures at c.drift_run.ensures.said) ∙ told_true _ _ e)

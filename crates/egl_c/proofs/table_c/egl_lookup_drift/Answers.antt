@@ -7,4 +7,4 @@ use Rattle.egl_c.proofs.table_c.egl_lookup_drift.Goals as goal
 
 pub returns-clause-right : goal.returns-clause-right
 unfolding told_inside
-returns-clause-right c = λ e. c.lookup_drift.ensures.right (c.lookup_drift.ensures.said ∙ told_true _ _ e)
+returns-clause-right c = λ e. (rw c.numbers.ensures at c.lookup_drift.ensures.right) ((rw c.numbers.ensures at c.lookup_drift.ensures.said) ∙ told_true _ _ e)
