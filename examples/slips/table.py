@@ -80,9 +80,9 @@ def plainer(clause):
 def statement(fact):
     """What the fact says in the sources' own words: a routine's promises, or a law's type. Empty where there is no such fact."""
     if '::' in fact:
-        crate, *modules, name = fact.split('::')
+        crate, *modules, name = [part for part in fact.split('::') if part[0].islower()]
         files = ['crates/%s/src/%s.rt' % (crate, file) for file in (['/'.join(modules)] if modules else ['lib', 'main'])]
-        heads = [re.search(r'^(?:pub(?:\(\w+\))? )?fn %s\b.*?^\{' % name, read(file), re.M | re.S) for file in files if there(file)]
+        heads = [re.search(r'^ *(?:pub(?:\(\w+\))? )?fn %s\b.*?^ *\{$' % name, read(file), re.M | re.S) for file in files if there(file)]
         return [plainer(line) for head in heads if head for line in re.findall(r'^ *(ensures.*)', head[0], re.M)]
     if not there(law_file(fact)):
         return []
