@@ -9,8 +9,8 @@ ghost use Rattle.bristol_export.specs.Text.{exported};
 use packing::{capped, pack_value};
 
 // The circuit of a text, into the front of out.
-#[unsafe(no_mangle)]
 #[tactic(auto, unfolding(bristol::specs::Import::import_said))]
+#[unsafe(no_mangle)]
 pub extern "C" fn egl_bristol_import(text: &[u8], out: &mut [u8]) -> u64
     ensures said { result ≡ packed_value (given (import_answer text.now (length out.old)) (capped (imported_length text.now))) }
     ensures written { out.new ≡ import_out text.now out.old }
@@ -19,8 +19,8 @@ pub extern "C" fn egl_bristol_import(text: &[u8], out: &mut [u8]) -> u64
 }
 
 // The text of a circuit, into the front of out.
-#[unsafe(no_mangle)]
 #[tactic(auto, unfolding(bristol_export::specs::Export::export_said))]
+#[unsafe(no_mangle)]
 pub extern "C" fn egl_bristol_export(bytes: &[u8], out: &mut [u8]) -> u64
     ensures said { result ≡ packed_value (given (export_answer bytes.now (length out.old)) (capped (length (exported bytes.now)))) }
     ensures written { out.new ≡ export_out bytes.now out.old }

@@ -13,8 +13,8 @@ ghost use Rattle.params.specs.Published.{numbers};
 use packing::{numbers, pack, pack_value};
 
 // The decomposition's offset, as the value.
-#[unsafe(no_mangle)]
 #[tactic(auto, unfolding(key::specs::Offset::offset_out))]
+#[unsafe(no_mangle)]
 pub extern "C" fn egl_key_decomposition_offset(
     n: u32,
     nbit: u32,
