@@ -3,7 +3,7 @@
  * Calls. Every function takes any numbers and any buffers. It does its work or gives a refusal, and a refused call has written to none of the
  * memory lent to it. A buffer is a pointer and the number of its elements (not bytes). The pointer must be valid for that many elements,
  * aligned for one element, and, where it is written to, must not overlap another buffer of the call. With length 0 the pointer is not followed and may
- * be NULL. No function allocates, keeps a pointer, or needs more than 64 KB of stack (the deepest, a drift run, takes 51,688 bytes).
+ * be NULL. No function allocates, keeps a pointer, or needs more than 64 KB of stack (the deepest, a lookup with its drifts, takes 51,128 bytes).
  *
  * Threads. Nothing is kept between calls and nothing is shared but what you lend: any functions may run in any threads at once, as long as no buffer that
  * one call writes to is lent to another at the same time. Keys are never written to, so one key serves all threads.

@@ -56,7 +56,7 @@ fn step_at(
     requires accumulator { Whole p a.old b.old }
     ensures { record { a = a.new; b = b.new } ≡ blind_step p key.now i mask.0 (record { a = a.old; b = b.old }) }
 {
-    let k = rotation::mask_amount_in(p, mask);
+    let k = rotation::mask_amount(p.params, mask).unwrap_or(Amount(0));
     let rows = key::bit_rows(p.params, key, i);
     step_by(p, rows, k, ta, tb, a, b);
 }
@@ -98,7 +98,7 @@ pub(crate) fn rotate_from(
     requires accumulator { Whole p a.old b.old }
     ensures { record { a = a.new; b = b.new } ≡ blind_rotated p key.now src.now (record { a = ta.old; b = tb.old }) }
 {
-    let k = rotation::body_amount_in(p, Torus(src[p.sizes.n]));
+    let k = rotation::body_amount(p.params, Torus(src[p.sizes.n])).unwrap_or(Amount(0));
     let _ = rotation::poly_mul_with_x_k(p.params, ta, k, a);
     let _ = rotation::poly_mul_with_x_k(p.params, tb, k, b);
     all_steps(p, src, key, ta, tb, a, b);

@@ -10,6 +10,7 @@ use crate::rotate_from;
 use params::{Checked, Params, Refusal};
 
 // The lent vector rotated, with the scratch lent: its copy there is what is rotated.
+#[tactic(auto, using(words::proofs::Loops::copied_all))]
 fn rotate_copy(
     p: Checked,
     src: &[u32],
@@ -28,8 +29,8 @@ fn rotate_copy(
     requires accumulator { Whole p a.old b.old }
     ensures { record { a = a.new; b = b.new } ≡ blind_rotated p key.now src.now (record { a = va.now; b = vb.now }) }
 {
-    ta.copy_from_slice(va);
-    tb.copy_from_slice(vb);
+    words::copy(va, ta);
+    words::copy(vb, tb);
     rotate_from(p, src, key, ta, tb, a, b);
 }
 

@@ -14,7 +14,7 @@ fn put(source: &[u32], c: u32, out: &mut [u32])
     requires { (length source.now ≡ length out.old) × (0 < length out.old) }
     ensures { out.new ≡ plus (length out.old) source.now (c ∷ []) }
 {
-    out.copy_from_slice(source);
+    words::copy(source, out);
     out[0] = ring::add(source[0], c);
 }
 

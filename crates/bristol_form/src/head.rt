@@ -45,8 +45,11 @@ fn head_limit(
 {
     sizes(text, place, ins, 256).map_err(Refusal::Limit)?;
     sizes(text, further, outs, 64).map_err(Refusal::Limit)?;
-    let last = next(text, skip(text, place, ins + outs)).start;
-    Refusal::Limit(last).unless(0 < sum)
+    // the token at fault is looked for only where there is none to set
+    if sum == 0 {
+        return Err(Refusal::Limit(next(text, skip(text, place, ins + outs)).start));
+    }
+    Ok(())
 }
 
 // The next token, which is to be a number.
@@ -74,8 +77,9 @@ pub(crate) fn head(text: &[u8]) -> Result<HeadRead, Refusal>
     Refusal::Text(w.start).unless(g.number <= w.number)?;
     let n = number(text, w.end)?;
     let ins = sizes(text, n.end, n.number, w.number - g.number).map_err(Refusal::Text)?;
-    let last = next(text, skip(text, w.end, n.number)).start;
-    Refusal::Text(last).unless(all_set(g.number, ins.sum, w.number))?;
+    if !all_set(g.number, ins.sum, w.number) {
+        return Err(Refusal::Text(next(text, skip(text, w.end, n.number)).start));
+    }
     let m = number(text, ins.at)?;
     let outs = sizes(text, m.end, m.number, w.number).map_err(Refusal::Text)?;
     Ok(HeadRead {

@@ -17,10 +17,9 @@ pub(crate) fn ahead(a: Leader, b: Leader) -> Leader
     ensures { result ≡ ahead a b }
 {
     if absolute(a.drift) < absolute(b.drift) {
-        b
-    } else {
-        a
+        return b;
     }
+    a
 }
 
 // Of two that lead among so many wires each: the first where the second has no wires, the second where the first has none, else the one that is ahead.

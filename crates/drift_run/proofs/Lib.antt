@@ -8,3 +8,4 @@ pub mod Results
 pub mod Determined
 pub mod Laws
 pub mod Imported
+pub mod Contracts

@@ -22,8 +22,8 @@ fn secrets_checks(
     Refusal::Length.unless(ls == s.bsk)?;
     Refusal::Length.unless(key.len() == s.n)?;
     Refusal::Length.unless(z.len() == s.size)?;
-    Refusal::KeyWord.unless(tlwe::keys::is_binary(key))?;
-    Refusal::KeyWord.unless(tlwe::keys::is_binary(z))?;
+    tlwe::keys::key_number(key)?;
+    tlwe::keys::key_number(z)?;
     Ok(c)
 }
 

@@ -37,37 +37,19 @@ pub fn lengths_of(p: Params, bytes: &[u8]) -> Lengths
     }
 }
 
-// The refusal of a number of the table that carries no place, and done where it is 0.
-fn numbered(number: u32) -> Result<(), Refusal>
-    ensures { result ≡ outcome (answer number) }
+/// The number and the place of a call on a circuit, from the numbers of what does not depend on the circuit and of what does: the circuit's own go between. It takes any numbers, also
+/// those of no row of the table, so it hands back numbers in place of a refusal.
+pub fn around(before: u32, bytes: &[u8], after: u32) -> (u32, usize)
+    ensures number { result.0 ≡ (around before bytes.now after).number }
+    ensures place { result.1 ≡ (around before bytes.now after).place }
 {
-    match number {
-        0 => Ok(()),
-        1 => Err(Refusal::Parameters),
-        2 => Err(Refusal::Length),
-        3 => Err(Refusal::Index),
-        4 => Err(Refusal::KeyWord),
-        5 => Err(Refusal::Modulus),
-        6 => Err(Refusal::Mark),
-        7 => Err(Refusal::Version),
-        8 => Err(Refusal::Count(0)),
-        9 => Err(Refusal::Gate(0)),
-        10 => Err(Refusal::Output(0)),
-        11 => Err(Refusal::Text(0)),
-        12 => Err(Refusal::Limit(0)),
-        _ => Err(Refusal::Wires),
+    if before != 0 {
+        return (before, 0);
     }
-}
-
-/// The outcome of a call on a circuit, from the refusals of what does not depend on the circuit and of what does: the circuit's own goes between.
-// Numbers in place of outcomes: this function's clause takes them.
-#[tactic(auto, using(circuit::proofs::Outcomes::outcome_or))]
-pub fn around(before: u32, bytes: &[u8], after: u32) -> Result<(), Refusal>
-    ensures { result ≡ outcome (around before bytes.now after) }
-{
-    numbered(before)?;
-    circuit::check(bytes)?;
-    numbered(after)
+    match circuit::check(bytes) {
+        Err(refusal) => (refusal.number(), refusal.place()),
+        Ok(()) => (after, 0),
+    }
 }
 
 // What comes before the lengths that depend on the circuit: the parameters, both keys' lengths, and the circuit itself.

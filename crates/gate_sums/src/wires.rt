@@ -19,7 +19,7 @@ pub fn not(p: Params, a: &[u32], out: &mut [u32]) -> Result<(), Refusal>
 }
 
 /// A copy of a ciphertext. Refusals: 1, 2.
-#[tactic(auto, unfolding(tlwe::specs::Linear::linear_number))]
+#[tactic(auto, using(words::proofs::Loops::copied_all), unfolding(tlwe::specs::Linear::linear_number))]
 pub fn copy(p: Params, a: &[u32], out: &mut [u32]) -> Result<(), Refusal>
     ensures said { result ≡ outcome (answer (linear_number p Zero (length a.now) (length a.now) (length out.old))) }
     ensures written { out.new ≡ if_done (linear_number p Zero (length a.now) (length a.now) (length out.old)) a.now out.old }
@@ -27,7 +27,7 @@ pub fn copy(p: Params, a: &[u32], out: &mut [u32]) -> Result<(), Refusal>
     let words = params::check(p)?.sizes.level0;
     Refusal::Length.unless(a.len() == words)?;
     Refusal::Length.unless(out.len() == words)?;
-    out.copy_from_slice(a);
+    words::copy(a, out);
     Ok(())
 }
 

@@ -38,7 +38,7 @@ fn rows_into(p: Checked, former: &[u32], out: &mut [u32])
     for r in 0..p.sizes.ksknoise {
         let from = former_place(p, r) * width;
         let at = r * width;
-        out[at..at + width].copy_from_slice(&former[from..from + width]);
+        words::copy(&former[from..from + width], &mut out[at..at + width]);
     }
 }
 

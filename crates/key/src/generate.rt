@@ -28,7 +28,7 @@ fn encrypted(key: &[u32], word: u32, masks: &[u32], noise: u32, out: &mut [u32])
     ensures { out.new ≡ masks.now ++ ((inner (length key.now) key.now masks.now + word + noise) % Q ∷ []) }
 {
     let (front, last) = out.split_at_mut(masks.len());
-    front.copy_from_slice(masks);
+    words::copy(masks, front);
     last[0] = ring::add(ring::add(masks_sum(masks, key), word), noise);
 }
 

@@ -51,23 +51,37 @@ fn part_of(answer: Result<(), Refusal>, slice: &[u32]) -> &[u32]
     if answer.is_ok() { slice } else { &slice[..0] }
 }
 
-/// The view of a lent switching key; over the empty part where `switching_key_answer` gives a refusal.
+// What `switching_key` puts into its view.
 #[tactic(auto, unfolding(crate::specs::View::viewed, crate::specs::View::view_number))]
+fn switching_part(p: Params, key: &[u32]) -> &[u32]
+    ensures { result.now ≡ viewed p (switching_words p) key.now }
+{
+    part_of(switching_key_answer(p, key.len()), key)
+}
+
+// What `bootstrapping_key` puts into its view.
+#[tactic(auto, unfolding(crate::specs::View::viewed, crate::specs::View::view_number))]
+fn bootstrapping_part(p: Params, key: &[u32]) -> &[u32]
+    ensures { result.now ≡ viewed p (bootstrapping_words p) key.now }
+{
+    part_of(bootstrapping_key_answer(p, key.len()), key)
+}
+
+/// The view of a lent switching key; over the empty part where `switching_key_answer` gives a refusal.
 pub fn switching_key<'a>(p: Params, key: &'a [u32]) -> SwitchingKey<'a>
     ensures { result.lent.now ≡ viewed p (switching_words p) key.now }
 {
     SwitchingKey {
-        lent: part_of(switching_key_answer(p, key.len()), key),
+        lent: switching_part(p, key),
     }
 }
 
 /// The view of a lent bootstrapping key; over the empty part where `bootstrapping_key_answer` gives a refusal.
-#[tactic(auto, unfolding(crate::specs::View::viewed, crate::specs::View::view_number))]
 pub fn bootstrapping_key<'a>(p: Params, key: &'a [u32]) -> BootstrappingKey<'a>
     ensures { result.lent.now ≡ viewed p (bootstrapping_words p) key.now }
 {
     BootstrappingKey {
-        lent: part_of(bootstrapping_key_answer(p, key.len()), key),
+        lent: bootstrapping_part(p, key),
     }
 }
 

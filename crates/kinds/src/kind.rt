@@ -57,6 +57,7 @@ impl Kind {
 
     /// Its meaning on the bits of its operands.
     #[tactic(auto, using(crate::proofs::Columns::differ, crate::proofs::Columns::alike), unfolding(crate::specs::Kinds::kind_of, crate::specs::Kinds::kinds))]
+    #[inline(always)]
     pub fn meaning(self, a: bool, b: bool, c: bool) -> bool
         ensures { result ≡ (kind_of (number self)).meaning a b c }
     {
@@ -84,6 +85,7 @@ impl TryFrom<usize> for Kind {
 
     ghost try_from_gives = { Numbered };
 
+    #[inline(always)]
     fn try_from(number: usize) -> Result<Self, NoKind> {
         match number {
             0 => Ok(Kind::False),

@@ -1,6 +1,6 @@
 -- What the callees leave, one after the other, makes the choice: each link's arguments are good, so each call does its work.
 -- Assumes nothing.
-use mathlib.Core.Path.{◌≡◌, ap, ap₂, ◌∙◌}
+use mathlib.Core.Path.{◌≡◌, refl, ap, ap₂, ◌∙◌}
 use mathlib.Core.List.{List}
 use Prim.Native.Nat.{ℕ, ◌+◌}
 use lib.ListN.{length}
@@ -55,6 +55,16 @@ module _ (p : Params) (a b c ksk bsk o : List ℕ) (k : MuxGood p (length a) (le
       let fv : v ≡ y = ev ∙ when_done _ _ _ (choice_sampled p k k.first k.third lv) in
       switched_to p k.good ksk bsk o k.switching k.result (mux_sum p x y) (mux_sum_length p x y)
       (es ∙ when_done _ _ _ (choice_added p k (ap length fu ∙ sample_length p bsk _) (ap length fv ∙ sample_length p bsk _) ls) ∙ ap₂ (mux_sum p) fu fv) eo
+
+  -- the same, its sum switched as one call: the scratch was u0 and v0
+  pub mux_switched : (u0 v0 : List ℕ) {u v out : List ℕ} → length u0 ≡ size p + 1 → length v0 ≡ size p + 1
+      → u ≡ sample_out p And a b bsk u0 → v ≡ sample_out p AndNy a c bsk v0
+      → out ≡ if_done (switch_number p (size p + 1) (length ksk) (length o)) (switched p ksk (mux_sum p u v)) o → out ≡ muxed p ksk bsk a b c
+  unfolding muxed
+  mux_switched u0 v0 {u} {v} lu lv eu ev eo =
+      let fu : u ≡ rotated_sample p bsk (summed p And a b) = eu ∙ when_done _ _ _ (choice_sampled p k k.first k.second lu) in
+      let fv : v ≡ rotated_sample p bsk (summed p AndNy a c) = ev ∙ when_done _ _ _ (choice_sampled p k k.first k.third lv) in
+      eo ∙ when_done _ _ _ (choice_switched p k refl) ∙ ap₂ (λ (x y : List ℕ). switched p ksk (mux_sum p x y)) fu fv
 
   -- three gates and a negation; the scratch was u0, v0 and w0
   pub naive_made : (u0 v0 w0 : List ℕ) {u v w out : List ℕ} → length u0 ≡ p.n + 1 → length v0 ≡ p.n + 1 → length w0 ≡ p.n + 1

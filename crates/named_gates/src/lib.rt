@@ -1,8 +1,12 @@
 #![tactic(auto)]
 // The ten gates by name, each `gates::gate` with its kind, and the choice a ? b : c (src/gates.rs).
-ghost use Rattle.std.specs.Prelude.{◌≡◌, length};
-ghost use Rattle.params.specs.Refusal.{answer, outcome, given};
+ghost use Rattle.std.specs.Prelude.{◌≡◌, ◌+◌, length};
+ghost use Rattle.params.specs.Refusal.{answer, outcome, given, if_done};
+ghost use Rattle.params.specs.Ranges.{params_number};
+ghost use Rattle.params.specs.Sizes.{size};
 ghost use Rattle.gate_sums.specs.declared.Kind.TheVariants.{Nand, Or, And, Nor, AndNy, AndYn, OrNy, OrYn, Xor, Xnor};
+ghost use Rattle.gate_sums.specs.Sum.{mux_sum};
+ghost use Rattle.switching.specs.Switched.{switch_number, switched};
 ghost use Rattle.gates.specs.Refusals.{gate_number, mux_number};
 ghost use Rattle.gates.specs.Gate.{muxed, muxed_naive, gate_out, mux_out};
 
@@ -184,6 +188,21 @@ fn mux_checks(
     Ok(p)
 }
 
+// The sum of two samples of level 1, switched. In a function of its own, so that its scratch is not there while the samples are made: they take the most stack.
+#[inline(never)]
+fn switch_sum(p: Params, u: &[u32], v: &[u32], ksk: &[u32], out: &mut [u32]) -> Result<(), Refusal>
+    requires good { params_number p ≡ 0 }
+    requires first { length u.now ≡ size p + 1 }
+    requires second { length v.now ≡ size p + 1 }
+    ensures said { result ≡ outcome (answer (switch_number p (size p + 1) (length ksk.now) (length out.old))) }
+    ensures written { out.new ≡ if_done (switch_number p (size p + 1) (length ksk.now) (length out.old)) (switched p ksk.now (mux_sum p u.now v.now)) out.old }
+{
+    let mut sum = [0u32; 1025];
+    let sum = &mut sum[..u.len()];
+    gate_sums::mux_sum(p, u, v, sum)?;
+    switching::identity_key_switching(p, sum, ksk, out)
+}
+
 /// a ? b : c, with two rotations and one key switching: two samples of level 1, their sum, and the switching of that. Refusals: 1, 2.
 pub fn mux(
     p: Params,
@@ -198,12 +217,11 @@ pub fn mux(
     ensures written { out.new ≡ mux_out muxed p a.now b.now c.now ksk.now bsk.now out.old }
 {
     let words = mux_checks(p, a, b, c, ksk, bsk, out)?.sizes.level1;
-    let (mut u, mut v, mut sum) = ([0u32; 1025], [0u32; 1025], [0u32; 1025]);
-    let (u, v, sum) = (&mut u[..words], &mut v[..words], &mut sum[..words]);
+    let (mut u, mut v) = ([0u32; 1025], [0u32; 1025]);
+    let (u, v) = (&mut u[..words], &mut v[..words]);
     samples::sample(p, Kind::And, a, b, bsk, u)?;
     samples::sample(p, Kind::AndNy, a, c, bsk, v)?;
-    gate_sums::mux_sum(p, u, v, sum)?;
-    switching::identity_key_switching(p, sum, ksk, out)
+    switch_sum(p, u, v, ksk, out)
 }
 
 /// a ? b : c by three gates, or(and(a, b), and(not a, c)). Refusals: 1, 2.
@@ -221,10 +239,11 @@ pub fn mux_naive(
 {
     mux_checks(p, a, b, c, ksk, bsk, out)?;
     let words = a.len();
-    let (mut u, mut v, mut w) = ([0u32; 1101], [0u32; 1101], [0u32; 1101]);
-    let (u, v, w) = (&mut u[..words], &mut v[..words], &mut w[..words]);
+    // not a, and then and(a, b) in its place
+    let (mut u, mut v) = ([0u32; 1101], [0u32; 1101]);
+    let (u, v) = (&mut u[..words], &mut v[..words]);
+    gate_sums::wires::not(p, a, u)?;
+    gates::gate(p, Kind::And, u, c, ksk, bsk, v)?;
     gates::gate(p, Kind::And, a, b, ksk, bsk, u)?;
-    gate_sums::wires::not(p, a, w)?;
-    gates::gate(p, Kind::And, w, c, ksk, bsk, v)?;
     gates::gate(p, Kind::Or, u, v, ksk, bsk, out)
 }

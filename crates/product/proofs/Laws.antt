@@ -19,9 +19,10 @@ use Rattle.params.proofs.Ranges.{in_range, not_refused}
 use Rattle.refusals.proofs.Table.{good, done}
 use Rattle.ring.specs.Word.{Q, at, neg}
 use Rattle.ring.specs.Sums.{sum_to, tab}
-use Rattle.ring.specs.Poly.{before, plus, times}
+use Rattle.ring.specs.Poly.{before, plus, minus, times}
 use Rattle.ring.proofs.Tab.{length-tab, at-tab, tab_ext, tab_of}
 use Rattle.ring.proofs.Parts.{slice_at}
+use Rattle.ring.proofs.Places.{length-minus}
 use Rattle.ring.proofs.SumLaws.{sum_back, sum_mod}
 use Rattle.ring.proofs.Words.{mul-mod_r}
 use Rattle.ring.proofs.Value.{by_test}
@@ -76,6 +77,19 @@ module _ (N : ℕ) (b : List ℕ) where
       (λ t. ap (λ (y : ℕ). y % Q) (doubled_high (N + k - i) (let u : i ≤ k = leb→le i k t in omega arith))
       ∙ ap (λ (y : ℕ). at b y % Q) (let u : i ≤ k = leb→le i k t in omega arith))
       (λ t. ap (λ (y : ℕ). y % Q) (doubled_low (N + k - i) (let u : k < i = nleb→lt i k t in omega arith)) ∙ mod-mod _ Q)
+
+-- the first half: b subtracted from zeros
+module _ (b : List ℕ) {n : ℕ} {zeros front : List ℕ} (l : n ≡ length b) (z : zeros ≡ tab n (λ i. 0)) (f : front ≡ minus (length zeros) zeros b) where
+  pub negated_length : length front ≡ length b
+  negated_length = ap length f ∙ length-minus (length zeros) zeros b ∙ ap length z ∙ length-tab n (λ i. 0) ∙ l
+
+  pub negated_at : (k : ℕ) → k < length b → at front k ≡ neg (at b k) % Q
+  unfolding minus
+  negated_at k h =
+      let m : k < length zeros = rw (z, length-tab n (λ i. 0), l) h in
+      ap (λ (x : List ℕ). at x k) f ∙ at-tab (length zeros) (λ i. (at zeros i + neg (at b i)) % Q) k m
+      ∙ ap (λ (x : ℕ). (x + neg (at b k)) % Q) (ap (λ (x : List ℕ). at x k) z ∙ at-tab n (λ i. 0) k (rw l h))
+      ∙ ap (λ (x : ℕ). x % Q) (let u : 0 + neg (at b k) ≡ neg (at b k) = omega arith in u)
 
 -- the two halves, one after the other
 pub doubled_parts : (b front : List ℕ) → length front ≡ length b → ((k : ℕ) → k < length b → at front k ≡ neg (at b k) % Q) → front ++ b ≡ doubled (length b) b

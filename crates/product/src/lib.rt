@@ -32,16 +32,18 @@ fn double_into(b: &[u32], twice: &mut [u32])
     ensures { twice.new ≡ doubled (length b.now) b.now }
 {
     let (front, back) = twice.split_at_mut(b.len());
-    words::combine(|_, x| ring::negated(x), b, front);
-    back.copy_from_slice(b);
+    words::fill(0, front);
+    words::subtract(b, front);
+    words::copy(b, back);
 }
 
 // One row: x times the window, added to every word. Places go up in both: this is the loop that vectorises.
+#[tactic(auto, unfolding(ring::specs::Private::add_by))]
 fn add_row(x: u32, window: &[u32], out: &mut [u32])
     requires { length window.now ≡ length out.old }
     ensures { out.new ≡ add_by out.old (λ k. x * at window.now k) }
 {
-    words::combine(|o, w| ring::add(o, ring::mul(x, w)), window, out);
+    words::add_times(x, window, out);
 }
 
 // Every row: the last coefficient of a first, so that the window goes up by one place a turn.

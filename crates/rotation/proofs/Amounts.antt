@@ -6,12 +6,14 @@ use native.Mathlib.Nat.{mod-lt, two-pow-succ, div-lt_iff_lt-mul}
 use native.Mathlib.Omega.{arith}
 use lib.Pow.{pow-add, pow_pos}
 use Rattle.params.specs.declared.Params.{Params}
+use Rattle.params.specs.declared.refusal.Refusal.{Refusal}
 use Rattle.params.specs.declared.refusal.Refusal.TheVariants.{Parameters}
 use Rattle.params.specs.Ranges.{params_number, InRange}
 use Rattle.params.specs.Refusal.{answer, given, unless}
 use Rattle.params.specs.Private.{fits}
-use Rattle.params.proofs.Ranges.{by_fits}
-use Rattle.std.specs.Prelude.{Bool, true, false, cond, eqb, Ok}
+use Rattle.params.proofs.Ranges.{by_fits, not_refused}
+use Rattle.std.specs.Prelude.{Bool, true, false, cond, eqb, Result, Ok}
+use Rattle.std.specs.Result.{result_unwrap_or}
 use Rattle.utils.specs.declared.Amount.{Amount}
 use Rattle.params.specs.Sizes.{size}
 use Rattle.ring.specs.Word.{Q, Q_pos}
@@ -81,6 +83,18 @@ module _ (p : Params) (r : InRange p) where
 -- what callers know of an amount that was asked for with parameters in range
 pub rounded_done : (p : Params) (k : ℕ) → params_number p ≡ 0 → rounded_to p k ≡ Ok (record { 0 = k })
 rounded_done p k e = rw e
+
+-- its amount where the parameters are those of checked ones, q, whatever would stand for a refusal
+module _ (p : Params) (i : InRange p) {q : Params} where
+  value_of : (k : Params → ℕ) (d : Amount) {v : Amount} → q ≡ p → v ≡ result_unwrap_or (rounded_to q (k q)) d → v.0 ≡ k p
+  value_of k d e u =
+      ap (λ (a : Amount). a.0) (u ∙ ap (λ (m : Params). result_unwrap_or (rounded_to m (k m)) d) e ∙ ap (λ (r : Result Amount Refusal). result_unwrap_or r d) (rounded_done p (k p) (not_refused p i)))
+
+  pub mask_value : (x : ℕ) (d : Amount) {r : Result Amount Refusal} {v : Amount} → q ≡ p → r ≡ rounded_to q (mask_amount q x) → v ≡ result_unwrap_or r d → v.0 ≡ mask_amount p x
+  mask_value x d {r} e h u = value_of (λ m. mask_amount m x) d e (u ∙ ap (λ (s : Result Amount Refusal). result_unwrap_or s d) h)
+
+  pub body_value : (b : ℕ) (d : Amount) {r : Result Amount Refusal} {v : Amount} → q ≡ p → r ≡ rounded_to q (body_amount q b) → v ≡ result_unwrap_or r d → v.0 ≡ body_amount p b
+  body_value b d {r} e h u = value_of (λ m. body_amount m b) d e (u ∙ ap (λ (s : Result Amount Refusal). result_unwrap_or s d) h)
 
 -- it is given by the number of the parameters' check
 pub rounded_given : (p : Params) (k : ℕ) → rounded_to p k ≡ given (answer (params_number p)) (record { 0 = k })

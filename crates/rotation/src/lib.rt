@@ -39,7 +39,7 @@ fn rotate_low(a: &[u32], k: usize, out: &mut [u32])
     let (first, last) = a.split_at(a.len() - k);
     let (front, back) = out.split_at_mut(k);
     turn_over(last, front);
-    back.copy_from_slice(first);
+    words::copy(first, back);
 }
 
 // The amount N + k: the last k words come to the front, copied; the others are complemented behind them.
@@ -50,7 +50,7 @@ fn rotate_high(a: &[u32], k: usize, out: &mut [u32])
 {
     let (first, last) = a.split_at(a.len() - k);
     let (front, back) = out.split_at_mut(k);
-    front.copy_from_slice(last);
+    words::copy(last, front);
     turn_over(first, back);
 }
 
@@ -81,9 +81,9 @@ pub fn poly_mul_with_x_k(p: Params, a: &[u32], k: Amount, out: &mut [u32]) -> Re
     Ok(())
 }
 
-/// The amount of a mask word, the parameters checked: the steps nearest to it, below 2N. The sum wraps.
+// The amount of a mask word, the parameters checked: the steps nearest to it, below 2N. The sum wraps.
 #[tactic(auto, using(crate::proofs::Amounts::half_power, crate::proofs::Amounts::step_power, crate::proofs::Amounts::step_pos), unfolding(crate::specs::Amount::mask_amount))]
-pub fn mask_amount_in(p: Checked, x: Torus) -> Amount
+fn mask_amount_in(p: Checked, x: Torus) -> Amount
     ensures { result.0 ≡ mask_amount p x.0 }
 {
     let nbit = p.params.nbit;
@@ -97,9 +97,9 @@ fn body_sum(b: u32, half: u32) -> u64
     b as u64 + half as u64
 }
 
-/// The amount of the last word, b, the parameters checked: 2N less the steps nearest to it, from 0 to 2N.
+// The amount of the last word, b, the parameters checked: 2N less the steps nearest to it, from 0 to 2N.
 #[tactic(auto, using(crate::proofs::Amounts::half_power, crate::proofs::Amounts::step_power, crate::proofs::Amounts::step_pos, crate::proofs::Amounts::turn_power), unfolding(crate::specs::Amount::body_amount))]
-pub fn body_amount_in(p: Checked, b: Torus) -> Amount
+fn body_amount_in(p: Checked, b: Torus) -> Amount
     ensures { result.0 ≡ body_amount p b.0 }
 {
     let nbit = p.params.nbit;

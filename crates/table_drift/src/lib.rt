@@ -39,8 +39,8 @@ fn lookup_drift_checks(
     Refusal::Length.unless(lc == s.level0)?;
     Refusal::Length.unless(lo == s.level0)?;
     Refusal::Length.unless(ld == 2)?;
-    Refusal::KeyWord.unless(tlwe::keys::is_binary(key))?;
-    Refusal::KeyWord.unless(tlwe::keys::is_binary(z))?;
+    tlwe::keys::key_number(key)?;
+    tlwe::keys::key_number(z)?;
     Refusal::Modulus.unless(tables::fits(s.size, modulus))?;
     tlwe::plaintexts::modulus_number(results)?;
     Ok(c)

@@ -158,8 +158,8 @@ fn cmux_with(
 {
     words::difference(a2, a1, da);
     words::difference(b2, b1, db);
-    outa.copy_from_slice(a1);
-    outb.copy_from_slice(b1);
+    words::copy(a1, outa);
+    words::copy(b1, outb);
     add_external(p, rows, da, db, outa, outb);
 }
 

@@ -88,13 +88,13 @@ fn encrypt_checks(
 }
 
 // The pair, the plain words standing in b. At these lengths the product refuses nothing.
-#[tactic(auto, using(crate::proofs::Pairs::sealed))]
+#[tactic(auto, using(crate::proofs::Pairs::sealed, words::proofs::Loops::copied_all))]
 fn seal(p: Checked, masks: &[u32], noise: &[u32], key: &[u32], a: &mut [u32], b: &mut [u32])
     requires { (length masks.now ≡ size p) × (length noise.now ≡ size p) × (length key.now ≡ size p) × (length a.old ≡ size p) × (length b.old ≡ size p) }
     ensures mask { a.new ≡ masks.now }
     ensures body { b.new ≡ fresh_body (size p) b.old noise.now masks.now key.now }
 {
-    a.copy_from_slice(masks);
+    words::copy(masks, a);
     words::add(noise, b);
     let _ = product::poly_mul_add(p.params, masks, key, b);
 }

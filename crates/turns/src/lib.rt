@@ -14,7 +14,7 @@ ghost use Rattle.turns.specs.Private.{Fits};
 
 use params::{Checked, Params, Refusal};
 use tlwe::Level;
-use utils::Torus;
+use utils::{Amount, Torus};
 
 /// What the turns of a rotation by a ciphertext tell: the place, below 2N, that they bring to the front, and what rounding brings in.
 #[derive(Clone, Copy)]
@@ -30,10 +30,8 @@ fn masks_turn(p: Checked, key: &[u32], src: &[u32]) -> u32
 {
     let mut turned = 0;
     for (i, k) in key.iter().enumerate() {
-        turned = ring::add(
-            turned,
-            ring::mul(*k, rotation::mask_amount_in(p, Torus(src[i])).0),
-        );
+        let amount = rotation::mask_amount(p.params, Torus(src[i])).unwrap_or(Amount(0));
+        turned = ring::add(turned, ring::mul(*k, amount.0));
     }
     turned
 }
@@ -45,7 +43,9 @@ fn place_of(p: Checked, key: &[u32], src: &[u32]) -> u32
 {
     let turn = ring::power(p.params.nbit + 1);
     let last = key.len();
-    let body = rotation::body_amount_in(p, Torus(src[last])).0;
+    let body = rotation::body_amount(p.params, Torus(src[last]))
+        .unwrap_or(Amount(0))
+        .0;
     let masks = masks_turn(p, key, src);
     let turned = (body + masks % turn) % turn;
     (turn - turned) % turn

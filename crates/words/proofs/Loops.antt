@@ -8,7 +8,8 @@ use native.Mathlib.Omega.{arith}
 use borrow.Author.Tests.{ltb-true, ltb-false}
 use lib.Dec.{ltb}
 use lib.ListN.{length, take, drop, set, get_or-eq_default, drop_of_length-le}
-use lib.Seq.{take_all, drop-cons, set_at}
+use lib.Seq.{take_all, drop-cons, set_at, length-take-le}
+use Rattle.std.proofs.lemmas.List.{get_or-take}
 use Rattle.ring.specs.Word.{Q, at, neg}
 use Rattle.ring.specs.Sums.{tab}
 use Rattle.ring.specs.Poly.{plus, minus}
@@ -53,6 +54,12 @@ copied_least a o n e = go (ltb (length o) (length a)) refl
         let s : n ≡ length a = omega arith in
         let q : length a ≤ length a = omega arith in
         rw s (ap (λ (l : List ℕ). l ++ drop (length a) o) (take_all (length a) a q ∙ sym (take_all (length o) a h)))
+
+-- the same of the loop, which writes a's words one after another
+pub copied_by : (a o : List ℕ) (n : ℕ) {out : List ℕ} → n ≡ min (length a) (length o) → out ≡ tab n (at a) ++ drop n o → out ≡ copied a o
+copied_by a o n e h =
+    let l : n ≤ length a = omega (arith, e) in
+    h ∙ ap (λ (x : List ℕ). x ++ drop n o) (sym (tab_of (take n a) n (at a) (length-take-le n a l) (λ k lk. get_or-take n a k 0 lk))) ∙ copied_least a o n e
 
 -- ---- what `combine` leaves, as the tab of an operation f whose second operand 0 changes no word
 

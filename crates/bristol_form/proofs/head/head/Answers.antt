@@ -1,5 +1,6 @@
 -- `bristol_form::head::head` meets its contract: each token is what the text says there, and each test refuses as the head's answer does.
 -- Assumes nothing.
+use mathlib.Core.Bool.{true, false}
 use mathlib.Core.Path.{◌≡◌, refl, sym, ap, ◌∙◌}
 use Prim.Native.Nat.{◌+◌}
 use native.Mathlib.Omega.{arith}
@@ -66,18 +67,17 @@ returns-in_err-ins c =
     let f : c.from_residual-in_err-ins.result ≡ Err c.in_err-ins.field-0.0 = search rules in
     f ∙ ap (λ r. Err r) m.2 ∙ given_text (head_answer b) (head_of b) m.0 m.0 (inputs_refused b k.counts m.0 told) refl
 
-pub returns-in_err-unless-2 : goal.returns-in_err-unless-2
-returns-in_err-unless-2 c =
+pub returns-then-not-all_set : goal.returns-then-not-all_set
+returns-then-not-all_set c =
     let b = c.args.text.now in
     let room = unless_held (leb c.in_ok-g.g.number c.in_ok-w.w.number) (Text c.in_ok-w.w.start) (sym c.unless.ensures ∙ c.in_ok-unless.was) in
     let k = begun b (sym c.number.ensures ∙ c.in_ok-g.was) (sym c.number-2.ensures ∙ c.in_ok-w.was) room (sym c.number-3.ensures ∙ c.in_ok-n.was) in
     let i = mapped_ok (λ p. Text p) c.sizes.result c.map_err.result c.map_err.ensures.cases c.in_ok-ins.was in
     let inputs_none = ap (λ (a : Answer). a.number) (inputs_told b k (c.sizes.ensures.told 11 (omega arith) ∙ ap (sizes_answer 11) i)) in
     let s = if_ok (λ s. (s.sum ≡ sizes_to b c.in_ok-n.n.end c.in_ok-n.n.number) × (s.at ≡ past b c.in_ok-n.n.end c.in_ok-n.n.number)) c.sizes.result c.in_ok-ins.ins c.sizes.ensures.summed i in
-    let last = reading b 0 (2 + input_values b) (c.skip.ensures ∙ ap (λ q. past b q c.in_ok-n.n.number) k.wires_read.end_is ∙ ap (past b (past b 0 2)) k.values_read.number_is ∙ sym (past_more b 0 2 (input_values b))) c.next-last.ensures in
-    let f : c.from_residual-in_err-unless-2.result ≡ Err c.in_err-unless-2.field-0.0 = search rules in
-    f ∙ unless_text c.all_set.result c.next-last.result.start (head_answer b) (head_of b) (place_at b 0 (2 + input_values b)) (sym c.unless-2.ensures ∙ c.in_err-unless-2.was) last.start_is
-    (λ z. wires_left b k.counts inputs_none (sym (set_read b k c.in_ok-ins.ins s c.all_set.ensures) ∙ z))
+    let last = reading b 0 (2 + input_values b) (c.skip.ensures ∙ ap (λ q. past b q c.in_ok-n.n.number) k.wires_read.end_is ∙ ap (past b (past b 0 2)) k.values_read.number_is ∙ sym (past_more b 0 2 (input_values b))) c.next.ensures in
+    let unset : c.all_set.result ≡ false = search rules in
+    given_text (head_answer b) (head_of b) c.next.result.start (place_at b 0 (2 + input_values b)) (wires_left b k.counts inputs_none (sym (set_read b k c.in_ok-ins.ins s c.all_set.ensures) ∙ unset)) last.start_is
 
 pub returns-in_err-m : goal.returns-in_err-m
 returns-in_err-m c =
@@ -87,7 +87,8 @@ returns-in_err-m c =
     let i = mapped_ok (λ p. Text p) c.sizes.result c.map_err.result c.map_err.ensures.cases c.in_ok-ins.was in
     let inputs_none = ap (λ (a : Answer). a.number) (inputs_told b k (c.sizes.ensures.told 11 (omega arith) ∙ ap (sizes_answer 11) i)) in
     let s = if_ok (λ s. (s.sum ≡ sizes_to b c.in_ok-n.n.end c.in_ok-n.n.number) × (s.at ≡ past b c.in_ok-n.n.end c.in_ok-n.n.number)) c.sizes.result c.in_ok-ins.ins c.sizes.ensures.summed i in
-    let all = sym (set_read b k c.in_ok-ins.ins s c.all_set.ensures) ∙ unless_held c.all_set.result (Text c.next-last.result.start) (sym c.unless-2.ensures ∙ c.in_ok-unless-2.was) in
+    let set : c.all_set.result ≡ true = search rules in
+    let all = sym (set_read b k c.in_ok-ins.ins s c.all_set.ensures) ∙ set in
     let x = not_number b (input_sizes b) (input_values b) (values_next b k c.in_ok-ins.ins s) (sym c.number-4.ensures ∙ c.in_err-m.was) in
     let q = output_values_lem b in
     let f : c.from_residual-in_err-m.result ≡ Err c.in_err-m.field-0.0 = search rules in
@@ -101,7 +102,8 @@ returns-in_err-outs c =
     let i = mapped_ok (λ p. Text p) c.sizes.result c.map_err.result c.map_err.ensures.cases c.in_ok-ins.was in
     let inputs_none = ap (λ (a : Answer). a.number) (inputs_told b k (c.sizes.ensures.told 11 (omega arith) ∙ ap (sizes_answer 11) i)) in
     let s = if_ok (λ s. (s.sum ≡ sizes_to b c.in_ok-n.n.end c.in_ok-n.n.number) × (s.at ≡ past b c.in_ok-n.n.end c.in_ok-n.n.number)) c.sizes.result c.in_ok-ins.ins c.sizes.ensures.summed i in
-    let all = sym (set_read b k c.in_ok-ins.ins s c.all_set.ensures) ∙ unless_held c.all_set.result (Text c.next-last.result.start) (sym c.unless-2.ensures ∙ c.in_ok-unless-2.was) in
+    let set : c.all_set.result ≡ true = search rules in
+    let all = sym (set_read b k c.in_ok-ins.ins s c.all_set.ensures) ∙ set in
     let M = is_number b (input_sizes b) (input_values b) (values_next b k c.in_ok-ins.ins s) (sym c.number-4.ensures ∙ c.in_ok-m.was) in
     let m = mapped_err (λ p. Text p) c.sizes-2.result c.map_err-2.result c.map_err-2.ensures.cases c.in_err-outs.was in
     let told = outputs_told b k c.in_ok-ins.ins s M.0 (c.sizes-2.ensures.told 11 (omega arith) ∙ ap (sizes_answer 11) m.1) in
@@ -134,7 +136,8 @@ returns c =
     let i = mapped_ok (λ p. Text p) c.sizes.result c.map_err.result c.map_err.ensures.cases c.in_ok-ins.was in
     let inputs_none = ap (λ (a : Answer). a.number) (inputs_told b k (c.sizes.ensures.told 11 (omega arith) ∙ ap (sizes_answer 11) i)) in
     let s = if_ok (λ s. (s.sum ≡ sizes_to b c.in_ok-n.n.end c.in_ok-n.n.number) × (s.at ≡ past b c.in_ok-n.n.end c.in_ok-n.n.number)) c.sizes.result c.in_ok-ins.ins c.sizes.ensures.summed i in
-    let all = sym (set_read b k c.in_ok-ins.ins s c.all_set.ensures) ∙ unless_held c.all_set.result (Text c.next-last.result.start) (sym c.unless-2.ensures ∙ c.in_ok-unless-2.was) in
+    let set : c.all_set.result ≡ true = search rules in
+    let all = sym (set_read b k c.in_ok-ins.ins s c.all_set.ensures) ∙ set in
     let M = is_number b (input_sizes b) (input_values b) (values_next b k c.in_ok-ins.ins s) (sym c.number-4.ensures ∙ c.in_ok-m.was) in
     let o = mapped_ok (λ p. Text p) c.sizes-2.result c.map_err-2.result c.map_err-2.ensures.cases c.in_ok-outs.was in
     let t = if_ok (λ t. (t.sum ≡ sizes_to b c.in_ok-m.m.end c.in_ok-m.m.number) × (t.at ≡ past b c.in_ok-m.m.end c.in_ok-m.m.number)) c.sizes-2.result c.in_ok-outs.outs c.sizes-2.ensures.summed o in

@@ -5,6 +5,8 @@ use Rattle.params.specs.Sizes.{switching_rows}
 use Rattle.ring.specs.Lists.{part}
 use Rattle.ring.proofs.Parts.{slice_part}
 use Rattle.ring.proofs.Joins.{joined_none, joined_done}
+use native.Mathlib.Omega.{arith}
+use Rattle.words.proofs.Loops.{copied_all}
 use Rattle.key.specs.Former.{former_row, without_idle}
 use Rattle.key.proofs.Rows.{sized, one_more}
 use Rattle.key.proofs.IdleRows.{lengths_left}
@@ -21,7 +23,7 @@ loop-r-preserved c =
     let l = c.loop-r in
     let d = sized c.p.view_is c.p.invariant in
     let within : l.r < switching_rows g.p = rw d.rows at c.loop-r-test.true in
-    let row = c.copy_from_slice.ensures.after ∙ slice_part _ _ _ ∙ ap₂ (λ (w a : ℕ). part w (a * w) g.former.now) d.width c.former_place.ensures in
+    let row = c.copy.ensures ∙ copied_all _ _ (omega arith) ∙ slice_part _ _ _ ∙ ap₂ (λ (w a : ℕ). part w (a * w) g.former.now) d.width c.former_place.ensures in
     one_more (g.p.n + 1) (row_at g.p g.former.now) g.out.now l.r d.width l.invariant row (lengths_left g.p d.range g.former.now c.requires.former l.r within)
 
 pub returns : goal.returns
