@@ -2,6 +2,7 @@ pub mod Fits
 pub mod Steps
 pub mod Outcomes
 pub mod Accept
+pub mod Places
 pub mod Wires
 pub mod Laws
 pub mod Longest

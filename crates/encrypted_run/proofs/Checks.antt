@@ -1,9 +1,9 @@
--- The refusals taken apart: what each answer of 0 tells, and that good arguments are not refused. An answer has three parts, the middle one the circuit's.
+-- The refusals taken apart: what each answer of 0 tells, that good arguments are not refused, and how far a place goes. An answer has three parts, the middle one the circuit's.
 -- Assumes nothing.
 use mathlib.Core.Path.{◌≡◌, refl, sym, ap, ◌∙◌}
 use mathlib.Core.Bool.{Bool, true, false}
 use mathlib.Core.List.{List, [], ◌∷◌}
-use Prim.Native.Nat.{ℕ, ◌+◌, ◌*◌}
+use Prim.Native.Nat.{ℕ, ◌+◌, ◌*◌, ◌<◌}
 use borrow.Author.Tests.{eqb-true}
 use lib.Dec.{eqb}
 use Rattle.std.specs.Prelude.{Ok}
@@ -15,9 +15,10 @@ use Rattle.params.specs.Sizes.{switching_words, bootstrapping_words}
 use Rattle.params.proofs.Answers.{when_done, given_ok, given_done}
 use Rattle.refusals.specs.Table.{Check, is}
 use Rattle.refusals.proofs.Table.{good, done, facts, none}
-use Rattle.circuit.specs.Form.{inputs, outputs, wires, answer_of, or_else}
+use Rattle.circuit.specs.Form.{inputs, outputs, wires, longest, answer_of, or_else}
 use Rattle.circuit.specs.Valid.{Valid}
 use Rattle.circuit.proofs.Accept.{accepted, not_refused, both_done}
+use Rattle.circuit.proofs.Places.{within_none, within_or, place_within}
 use Rattle.encrypted_run.specs.Refusals.{around, material_number, encrypted_answer, step_answer}
 use Rattle.encrypted_run.specs.Private.{KeysGood, StepGood, RunGood}
 
@@ -32,6 +33,10 @@ module _ (before : ℕ) (bs : List ℕ) (after : ℕ) where
 
   pub around_done : before ≡ 0 → Valid bs → after ≡ 0 → around before bs after ≡ answer 0
   around_done b v a = when_done before _ _ b ∙ when_done (answer_of bs).number _ _ (ap (λ (x : Answer). x.number) (not_refused bs v)) ∙ ap answer a
+
+  -- its place lies within the longest circuit
+  pub around_within : (around before bs after).place < longest
+  around_within = within_or (answer before) _ (within_none before) (λ e. within_or (answer_of bs) (answer after) (place_within bs) (λ u. within_none after))
 
 -- ---- the code's checks
 
